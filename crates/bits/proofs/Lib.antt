@@ -1,0 +1,6 @@
+-- Lemmas on bits, ⊕ and columns.
+pub mod Xors
+pub mod Masking
+pub mod Runs
+pub mod Picks
+pub mod UnitColumns

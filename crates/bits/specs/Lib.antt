@@ -1,0 +1,3 @@
+-- Bits, and the columns that they choose.
+pub mod Bits
+pub mod Columns
