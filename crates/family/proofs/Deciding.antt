@@ -34,6 +34,7 @@ separate-cons x xs z away s = (none, differ)
     none : (i : ℕ) → i < length (x ∷ xs) → getD (x ∷ xs) i 0 ≢ 0
     none zero h = z
     none (suc i) h = s .0 i (omega arith)
+
     differ : (i j : ℕ) → i < j → j < length (x ∷ xs) → getD (x ∷ xs) i 0 ≢ getD (x ∷ xs) j 0
     differ zero zero l h = absurd (omega arith)
     differ zero (suc j) l h = away j (omega arith)
@@ -51,8 +52,8 @@ true-separate : (xs : List ℕ) → Separate xs → separate xs ≡ true
 true-separate [] s = refl
 true-separate (x ∷ xs) s =
     and-from (not (eqb x 0)) (absent x xs && separate xs) (not-from-false (eqb x 0) (ne-eqb x 0 (s .0 0 (omega arith))))
-      (and-from (absent x xs) (separate xs) (true-absent x xs (λ j h. s .1 0 (suc j) (omega arith) (omega arith)))
-        (true-separate xs ((λ i h. s .0 (suc i) (omega arith)), (λ i j l h. s .1 (suc i) (suc j) (omega arith) (omega arith)))))
+    (and-from (absent x xs) (separate xs) (true-absent x xs (λ j h. s .1 0 (suc j) (omega arith) (omega arith)))
+    (true-separate xs ((λ i h. s .0 (suc i) (omega arith)), (λ i j l h. s .1 (suc i) (suc j) (omega arith) (omega arith)))))
 
 pub separate-false : (xs : List ℕ) → separate xs ≡ false → Separate xs → ⊥
 separate-false xs e s = both-ways (separate xs) e (true-separate xs s)

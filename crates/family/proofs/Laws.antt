@@ -24,19 +24,18 @@ one-or-two (suc (suc (suc n))) p q = absurd (omega arith)
 pub separate-law : (cs : List ℕ) → Separate cs → (choice : List Bool) → length choice ≡ length cs → 1 ≤ weight choice → weight choice < 3 → picked choice cs ≢ 0
 separate-law cs s choice l low high z =
     ⊎-elim
-      (λ e. let r = picked-one choice cs l e in s .0 (r .0) (r .1) (sym (r .2) ∙ z))
-      (λ e. let r = picked-two choice cs l e in s .1 (r .0) (r .1) (r .2) (r .3) (same-from-xor _ _ (sym (r .4) ∙ z)))
-      (one-or-two (weight choice) low high)
+    (λ e. let r = picked-one choice cs l e in s .0 (r .0) (r .1) (sym (r .2) ∙ z))
+    (λ e. let r = picked-two choice cs l e in s .1 (r .0) (r .1) (r .2) (r .3) (same-from-xor _ _ (sym (r .4) ∙ z)))
+    (one-or-two (weight choice) low high)
 
 -- what a family of distance 3 has to show
 module _ (k : Meaning) (distance : k .distance ≡ 3) (count : (m : ℕ) → 1 ≤ m → m ≤ k .reach → length (k .columns m) ≡ m)
     (separate : (m : ℕ) → 1 ≤ m → m ≤ k .reach → Separate (k .columns m ++ units (k .width))) where
-
   pub law-at-3 : (m : ℕ) → 1 ≤ m → m ≤ k .reach → Law k m
   law-at-3 m low high choice l some few =
       separate-law (k .columns m ++ units (k .width)) (separate m low high) choice
-        (l ∙ omega (arith, length-append (k .columns m) (units (k .width)), count m low high, length-units (k .width)))
-        some (subst (λ d. weight choice < d) distance few)
+      (l ∙ omega (arith, length-append (k .columns m) (units (k .width)), count m low high, length-units (k .width)))
+      some (subst (λ d. weight choice < d) distance few)
 
   pub lawful-at-3 : 3 ≤ k .width → k .width ≤ 64 → 1 ≤ k .reach → k .reach ≤ longest-reach
       → ((m : ℕ) → 1 ≤ m → m ≤ k .reach → All (λ c. c < 2 ^ k .width) (k .columns m)) → Lawful k

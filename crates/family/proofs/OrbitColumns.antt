@@ -60,7 +60,7 @@ module _ (f : ℕ → ℕ) (n : ℕ) (stays : (a : ℕ) → a < 2 ^ n → f a < 
     first-again i j a h p e =
         let sum : j ≡ (j - i) + i = omega arith in
         iterate-apart i a (iterate f (j - i) a) p (iterate-stays (j - i) a p)
-          (e ∙ ap (λ k. iterate f k a) sum ∙ iterate-add f (j - i) i a)
+        (e ∙ ap (λ k. iterate f k a) sum ∙ iterate-add f (j - i) i a)
 
     pub iterate-nonzero : (k a : ℕ) → a < 2 ^ n → a ≢ 0 → iterate f k a ≢ 0
     iterate-nonzero zero a h z = z
@@ -72,8 +72,8 @@ module _ (f : ℕ → ℕ) (n : ℕ) (stays : (a : ℕ) → a < 2 ^ n → f a < 
         let long = length-orbit f m a in (
           (λ i l e. iterate-nonzero i a h z (sym (getD-orbit f m a i (omega arith)) ∙ e)),
           (λ i j ij l e.
-            let same : iterate f i a ≡ iterate f j a = sym (getD-orbit f m a i (omega arith)) ∙ e ∙ getD-orbit f m a j (omega arith) in
-            new (j - i) (omega arith) (omega arith) (sym (first-again i j a ij h same))),
+              let same : iterate f i a ≡ iterate f j a = sym (getD-orbit f m a i (omega arith)) ∙ e ∙ getD-orbit f m a j (omega arith) in
+              new (j - i) (omega arith) (omega arith) (sym (first-again i j a ij h same))),
         )
 
 -- one that does come again
@@ -86,9 +86,9 @@ again-separate f m a j p h e s =
 pub separate-from-units : (n : ℕ) (cs : List ℕ) → Separate cs → ((i : ℕ) → i < length cs → ones (getD cs i 0) ≢ 1) → Separate (cs ++ units n)
 separate-from-units n cs s none =
     separate-append cs (units n) s (separate-units n)
-      (λ i j hi hj e.
-        let long = length-units n in
-        none i hi (ap ones (e ∙ getD-units n j (omega arith)) ∙ ones-power (n - 1 - j)))
+    (λ i j hi hj e.
+    let long = length-units n in
+    none i hi (ap ones (e ∙ getD-units n j (omega arith)) ∙ ones-power (n - 1 - j)))
 
 -- a column of n bits with a single one is a unit column
 pub unit-separate : (n : ℕ) (cs : List ℕ) (i : ℕ) → i < length cs → getD cs i 0 < 2 ^ n → ones (getD cs i 0) ≡ 1 → Separate (cs ++ units n) → ⊥
@@ -102,6 +102,6 @@ pub separate-fewer : (n : ℕ) (xs ys : List ℕ) → length ys ≤ length xs �
     → Separate (xs ++ units n) → Separate (ys ++ units n)
 separate-fewer n xs ys fewer at s =
     separate-append ys (units n)
-      (separate-part xs ys (λ i. i) (λ i h. (omega arith, at i h)) (λ i j ij h. ij) (separate-left xs (units n) s))
-      (separate-units n)
-      (λ i j hi hj e. separate-across xs (units n) s i j (omega arith) hj (sym (at i hi) ∙ e))
+    (separate-part xs ys (λ i. i) (λ i h. (omega arith, at i h)) (λ i j ij h. ij) (separate-left xs (units n) s))
+    (separate-units n)
+    (λ i j hi hj e. separate-across xs (units n) s i j (omega arith) hj (sym (at i hi) ∙ e))

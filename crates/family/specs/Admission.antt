@@ -1,4 +1,4 @@
--- What is asked of a raw key, and of the text lengths that are handed to a key.
+-- What is asked of a raw key, and of a text that is handed to a key.
 use mathlib.Core.Path.{_≡_}
 use mathlib.Core.List.{List, [], _∷_, _++_}
 use Prim.Native.Nat.{ℕ, _*_, _%_, _^_, _≤_, _<_}
@@ -50,10 +50,10 @@ columns-questions k = asks (Separate (k .columns (k .reach) ++ units (k .width))
 abbrev pub admission-questions : Start → RawKey → Meaning → List Question
 admission-questions start raw k = form-questions start raw ++ columns-questions k
 
--- what digest asks: m is 1 to the reach, and the bytes hold m bits
-abbrev pub digest-questions : Meaning → ℕ → List ℕ → List Question
-digest-questions k m text = asks ((1 ≤ m) × (m ≤ k .reach) × (m ≤ 8 * length text)) 8 ∷ []
+-- what is asked of a text length m: it is 1 to the reach
+abbrev pub length-questions : ℕ → ℕ → List Question
+length-questions reach m = asks ((1 ≤ m) × (m ≤ reach)) 8 ∷ []
 
--- what locate asks: m is 1 to the reach
-abbrev pub locate-questions : Meaning → ℕ → List Question
-locate-questions k m = asks ((1 ≤ m) × (m ≤ k .reach)) 8 ∷ []
+-- what is asked of a text of m bits: m is 1 to the reach, and the bytes hold m bits
+abbrev pub text-questions : ℕ → ℕ → List ℕ → List Question
+text-questions reach m text = asks ((1 ≤ m) × (m ≤ reach) × (m ≤ 8 * length text)) 8 ∷ []

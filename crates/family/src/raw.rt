@@ -1,7 +1,6 @@
 //! Raw keys, as they are handed in, and the questions on their numbers that every family asks.
 ghost use Rattle.family.specs.Admission.{admission-number, form-questions};
 ghost use Rattle.family.specs.Questions.{Asked};
-
 use crate::refusals::AdmissionRefusal;
 
 // The longest text of any key, in bits.

@@ -37,7 +37,8 @@ pub impl fmt::Display for AdmissionRefusal as AdmissionRefusalDisplay {
             AdmissionRefusal::LowestCoefficient => "the coefficient of x^0 is zero",
             AdmissionRefusal::State => "the state does not fit the family",
             AdmissionRefusal::Reach => "the wanted reach is not 1 to 1016",
-            AdmissionRefusal::Columns => "two of the columns and unit columns are equal, or one is zero",
+            AdmissionRefusal::Columns =>
+                "two of the columns and unit columns are equal, or one is zero",
         };
         f.write_str(words)
     }
