@@ -8,7 +8,7 @@ use native.Mathlib.Nat.{le-of-suc-le-suc, suc-add, suc-inj, zero-add, mod-eq-of-
 use lib.Bits.{bitXor, xor-shifted}
 use lib.Dec.{eqb}
 use lib.ListN.{length, getD, set, length-append}
-use Rattle.std.proofs.shelf.Bits.{pow-pos, mod-pow-add, field-of, shr-high, mod-low}
+use Rattle.std.proofs.shelf.Bits.{pow-pos, mod-pow-add, field-of, shr-high, shr-shr, mod-low}
 use Rattle.std.proofs.shelf.Lists.{getD-append-left, getD-append-add}
 use Rattle.bits.specs.Bits.{Bytes, bits-of, bits, toggle, flip}
 use Rattle.bits.specs.Columns.{picked, units}
@@ -91,6 +91,16 @@ bits-of-low k hi r h =
     sym (bits-of-mod 0 k (hi * 2 ^ k + r))
     ∙ ap (λ (n : ℕ). bits-of k ((hi * 2 ^ k + r) % 2 ^ n)) (zero-add k)
     ∙ ap (bits-of k) (mod-low hi k r h)
+
+-- the high bits come first
+pub bits-of-add : (j k x : ℕ) → bits-of (j + k) x ≡ bits-of j (x / 2 ^ k) ++ bits-of k x
+unfolding bits-of
+bits-of-add zero k x = ap (λ (n : ℕ). bits-of n x) (zero-add k)
+bits-of-add (suc j) k x =
+    ap (λ (n : ℕ). bits-of n x) (suc-add j k)
+    ∙ ap₂ (λ (a : ℕ) (r : List Bool). eqb (a % 2) 1 ∷ r)
+    (ap (λ (n : ℕ). x / 2 ^ n) (omega arith) ∙ sym (shr-shr x k j))
+    (bits-of-add j k x)
 
 digit-of : (b : Bool) (k : ℕ) → cond b (2 ^ k) 0 ≡ cond b 1 0 * 2 ^ k
 digit-of true k = omega arith
