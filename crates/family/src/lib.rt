@@ -11,4 +11,8 @@ pub use raw::LONGEST_REACH;
 pub use raw::RawKey;
 pub use raw::Start;
 pub use refusals::AdmissionRefusal;
+pub use refusals::AdmissionRefusalDisplay;
+pub use refusals::AdmissionRefusalError;
 pub use refusals::OutOfReach;
+pub use refusals::OutOfReachDisplay;
+pub use refusals::OutOfReachError;

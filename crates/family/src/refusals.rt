@@ -1,6 +1,7 @@
 //! What admission, digest and locate refuse with.
 ghost use Rattle.family.specs.Admission.{admission-number, reach-number};
 ghost use mathlib.Core.Path.{_≡_};
+use std::error::Error;
 use std::fmt;
 
 // What is wrong with a raw key: the first of its numbers that is out of its range, or its columns.
@@ -44,6 +45,8 @@ pub impl fmt::Display for AdmissionRefusal as AdmissionRefusalDisplay {
     }
 }
 
+pub impl Error for AdmissionRefusal as AdmissionRefusalError {}
+
 // A digest or a search was asked for a text length that is not 1 to the reach, or that the bytes do
 // not hold.
 #[derive(Clone, Copy, Debug, PartialEq, Eq)]
@@ -56,3 +59,11 @@ impl OutOfReach {
         8
     }
 }
+
+pub impl fmt::Display for OutOfReach as OutOfReachDisplay {
+    fn fmt<W: fmt::Write>(&self, f: &mut fmt::Formatter<W>) -> fmt::Result {
+        f.write_str("the text length is not 1 to the reach, or the bytes do not hold it")
+    }
+}
+
+pub impl Error for OutOfReach as OutOfReachError {}

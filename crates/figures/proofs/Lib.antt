@@ -1,0 +1,1 @@
+-- The figures need no lemmas of their own.

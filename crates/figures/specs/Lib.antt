@@ -1,0 +1,2 @@
+-- Worked figures.
+pub mod Figures
