@@ -1,0 +1,2 @@
+-- Syndromes, and what they find.
+pub mod Mending

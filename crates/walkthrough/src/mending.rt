@@ -1,0 +1,60 @@
+//! One changed bit found by its syndrome, and put right.
+ghost use Rattle.bits.specs.Columns.{place, units as unit-columns};
+ghost use Rattle.family.specs.Admission.{length-questions, reach-number, text-questions};
+ghost use Rattle.family.specs.Meaning.{digest-of};
+ghost use Rattle.family.specs.Questions.{Asked};
+ghost use Rattle.walkthrough.specs.Mending.{finding as finding-of, mended, syndrome as syndrome-of};
+ghost use mathlib.Core.Path.{_≡_};
+use bits::flip_bit;
+use bits::unit_place;
+use family::Family;
+use family::OutOfReach;
+
+// What a syndrome is: zero, the column of a text place, the unit column of a tag place, or none of these.
+#[derive(Clone, Copy)]
+pub enum Finding {
+    Clean,
+    Text(usize),
+    Tag(u32),
+    Unknown,
+}
+
+// The received tag ⊕ the pad ⊕ the digest of the received text.
+pub fn syndrome<F: Family>(
+    key: &F,
+    text: &[u8],
+    m: usize,
+    tag: u64,
+    pad: u64,
+) -> Result<u64, OutOfReach>
+    ensures { λ r. ⌜ Asked (text-questions (meaning (now (key .entry)) .reach) m (now (text .entry))) reach-number (λ s. s ≡ syndrome-of (meaning (now (key .entry))) m (now (text .entry)) tag pad) r ⌝ }
+{
+    let digest = key.digest(text, m)?;
+    Ok(tag ^ pad ^ digest)
+}
+
+// Looks for the syndrome among the columns of the text, then among the unit columns of the tag.
+pub fn find<F: Family>(key: &F, syndrome: u64, m: usize) -> Result<Finding, OutOfReach>
+    ensures { λ r. ⌜ Asked (length-questions (meaning (now (key .entry)) .reach) m) reach-number (λ f. f ≡ finding-of syndrome (meaning (now (key .entry)) .columns m) (meaning (now (key .entry)) .width)) r ⌝ }
+{
+    let column = key.locate(syndrome, m)?;
+    if syndrome == 0 {
+        return Ok(Finding::Clean);
+    }
+    if let Some(place) = column {
+        return Ok(Finding::Text(place));
+    }
+    match unit_place(syndrome, key.width()) {
+        Some(place) => Ok(Finding::Tag(place)),
+        None => Ok(Finding::Unknown),
+    }
+}
+
+// Turns the bit over that was found changed in the text.
+pub fn put_right(text: &mut [u8], finding: Finding)
+    ensures { λ _. ⌜ now (text .exit) ≡ mended finding (now (text .entry)) ⌝ }
+{
+    if let Finding::Text(place) = finding {
+        flip_bit(text, place);
+    }
+}
