@@ -24,10 +24,13 @@ pub impl PadSource for PadBook<'_> as BookPads {
     ghost words = { λ b slot. book-words (now (b .words)) slot };
 
     fn word(&self, slot: u32) -> Result<u64, PadFault> {
-        let place = slot as usize;
-        if place == 0 || place > self.words.len() {
-            return Err(PadFault { slot });
+        let uncovered = PadFault { slot };
+        let Some(place) = slot.checked_sub(1) else {
+            return Err(uncovered);
+        };
+        match self.words.get(place as usize) {
+            Some(word) => Ok(*word),
+            None => Err(uncovered),
         }
-        Ok(self.words[place - 1])
     }
 }

@@ -26,18 +26,3 @@ pub trait PadSource {
     fn word(&self, slot: u32) -> Result<u64, PadFault>
         ensures { λ r. ⌜ r ≡ answer (words (now (self .entry)) slot) slot ⌝ };
 }
-
-// How a caller hands a fault on: `?` leaves it as the source answered it.
-#[cfg(test)]
-mod tests {
-    use super::*;
-    ghost use Rattle.pads.specs.Source.{answer};
-    ghost use mathlib.Core.Path.{_≡_};
-
-    fn passed_on<P: PadSource>(source: &P, slot: u32) -> Result<u64, PadFault>
-        ensures { λ r. ⌜ r ≡ answer (P·PadSource .words (now (source .entry)) slot) slot ⌝ }
-    {
-        let word = source.word(slot)?;
-        Ok(word)
-    }
-}
