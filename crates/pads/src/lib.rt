@@ -13,4 +13,7 @@ pub use cipher::CipherPads;
 pub use cipher::CipherSource;
 pub use pad::first_bits;
 pub use source::PadFault;
+pub use source::PadFaultDebug;
+pub use source::PadFaultEq;
+pub use source::PadFaultPartialEq;
 pub use source::PadSource;
