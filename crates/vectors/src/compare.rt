@@ -47,7 +47,7 @@ pub(crate) impl fmt::Display for Tally as TallyDisplay {
         let differing = self.differing;
         write!(
             f,
-            "{blocks} blocks and {words} words agree, {differing} lines differ"
+            "{blocks} blocks and {words} words agree; lines that differ: {differing}"
         )?;
         match self.first {
             Some(number) => write!(f, ", the first is line {number}"),

@@ -40,7 +40,10 @@ pub(crate) impl fmt::Display for BadLine as BadLineDisplay {
     fn fmt<W: fmt::Write>(&self, f: &mut fmt::Formatter<W>) -> fmt::Result {
         let number = self.number;
         match self.fault {
-            LineFault::Unreadable(field) => write!(f, "line {number}: cannot read its {field:?}"),
+            LineFault::Unreadable(field) => {
+                let name = field.name();
+                write!(f, "line {number}: {name} cannot be read")
+            }
             LineFault::NoPad(fault) => {
                 let slot = fault.slot;
                 let refusal = fault.number();

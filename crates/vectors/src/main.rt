@@ -15,7 +15,11 @@ use std::error::AnyError;
 use std::io;
 
 fn main(rt: LibcRuntime) -> Result<(), AnyError> {
-    rt.report(run(&rt))
+    let outcome = run(&rt);
+    if let Err(why) = &outcome {
+        eprintln!(rt, "{why}")?;
+    }
+    outcome
 }
 
 fn run(rt: &LibcRuntime) -> Result<(), AnyError> {
@@ -25,6 +29,6 @@ fn run(rt: &LibcRuntime) -> Result<(), AnyError> {
     if tally.all_agree() {
         Ok(())
     } else {
-        Err("not every line of the table agrees".into())
+        Err("the table and the program differ".into())
     }
 }

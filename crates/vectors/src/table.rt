@@ -29,6 +29,19 @@ pub(crate) enum Unread {
     End,
 }
 
+impl Unread {
+    pub(crate) fn name(self) -> &'static str {
+        match self {
+            Unread::Kind => "what it begins with",
+            Unread::Key => "its key",
+            Unread::Nonce => "its nonce",
+            Unread::Counter => "its counter or slot",
+            Unread::Expected => "the block or word that is expected",
+            Unread::End => "what stands behind its last field",
+        }
+    }
+}
+
 pub(crate) fn is_blank(line: &str) -> bool {
     line.is_empty() || line.starts_with('#')
 }
