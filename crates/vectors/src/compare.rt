@@ -1,5 +1,5 @@
 // Compares the lines of the table, one after the other, and counts.
-ghost use Rattle.vectors.specs.Agreement.{agreement};
+ghost use Rattle.vectors.specs.Agreement.{agreement, agreement-on};
 ghost use mathlib.Core.Path.{_≡_};
 use crate::faults::BadLine;
 use crate::faults::LineFault;
@@ -76,7 +76,9 @@ fn compare_line(line: &str) -> Result<(Expected, bool), LineFault> {
     Ok((entry.expected, agrees(&entry)?))
 }
 
-fn agrees(entry: &Entry) -> Result<bool, PadFault> {
+fn agrees(entry: &Entry) -> Result<bool, PadFault>
+    ensures { λ r. ⌜ r ≡ agreement-on (now (entry .entry) .expected) (now (entry .entry) .key) (now (entry .entry) .nonce) (now (entry .entry) .counter) ⌝ }
+{
     match entry.expected {
         Expected::Block(expected) => Ok(
             chacha20::block(&entry.key, &entry.nonce, entry.counter) == expected,
