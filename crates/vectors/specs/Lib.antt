@@ -1,0 +1,3 @@
+-- What the contracts of this program mean.
+pub mod Digit
+pub mod Agreement
