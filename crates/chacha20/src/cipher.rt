@@ -1,4 +1,4 @@
-// The ChaCha20 block function, in the order in which RFC 8439 builds it up.
+//! The ChaCha20 block function, in the order in which RFC 8439 builds it up.
 ghost use Prim.Native.Nat.{_+_, _<_, _≤_};
 ghost use Rattle.chacha20.specs.Block.{quarter-round, quarter-round-at, column-round, diagonal-round, double-rounds};
 ghost use Rattle.chacha20.specs.Block.{word-at, initial-state, sums, serialized, block as the-block};

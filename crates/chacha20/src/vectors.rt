@@ -1,4 +1,4 @@
-// The vectors of RFC 8439 as a theorem.
+//! The vectors of RFC 8439 as a theorem.
 ghost use Rattle.chacha20.specs.Vectors.{vectors, Holds};
 ghost use Rattle.std.specs.shelf.Lists.{All};
 ghost use lib.ListN.{length};

@@ -1,4 +1,4 @@
-// A pad book: the words of the slots 1, 2, 3 and on, written down.
+//! A pad book: the words of the slots 1, 2, 3 and on, written down.
 ghost use Rattle.pads.specs.Sources.{book-words};
 ghost use denote.Ref.{now};
 ghost use mathlib.Core.Path.{_≡_};

@@ -1,4 +1,4 @@
-// A cipher source: the word of a slot is cut from the ChaCha20 key stream.
+//! A cipher source: the word of a slot is cut from the ChaCha20 key stream.
 ghost use Rattle.pads.specs.Sources.{cipher-words};
 ghost use mathlib.Core.Path.{_≡_};
 use crate::source::PadFault;

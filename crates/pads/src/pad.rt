@@ -1,4 +1,4 @@
-// The pad of a width, cut from a word.
+//! The pad of a width, cut from a word.
 ghost use Rattle.pads.specs.Pad.{pad};
 ghost use mathlib.Core.Path.{_≡_};
 

@@ -1,4 +1,4 @@
-// Compares the lines of the table, one after the other, and counts.
+//! Compares the lines of the table, one after the other, and counts.
 ghost use Rattle.vectors.specs.Agreement.{agreement, agreement-on};
 ghost use mathlib.Core.Path.{_≡_};
 use crate::faults::BadLine;

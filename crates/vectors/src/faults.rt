@@ -1,4 +1,4 @@
-// Why a line of the table could not be compared, told with the line's number.
+//! Why a line of the table could not be compared, told with the line's number.
 ghost use Rattle.vectors.specs.declared.faults.LineFault.the-variants.{Unreadable, NoPad};
 ghost use mathlib.Core.Path.{_≡_};
 use crate::table::Unread;

@@ -1,4 +1,4 @@
-// Bytes written in hexadecimal digits.
+//! Bytes written in hexadecimal digits.
 ghost use Rattle.vectors.specs.Digit.{hex-digit};
 ghost use mathlib.Core.Path.{_≡_};
 

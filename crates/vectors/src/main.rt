@@ -1,7 +1,7 @@
-// Compares the ChaCha20 block and the cipher pad source with a table that another implementation made.
-//
-// The table comes on standard input. What is printed is how many of its lines agree, and the first line that differs;
-// a line that cannot be read is told with its number. The README beside this folder says how the table is made.
+//! Compares the ChaCha20 block and the cipher pad source with a table that another implementation made.
+//!
+//! The table comes on standard input. What is printed is how many of its lines agree, and the first line that differs;
+//! a line that cannot be read is told with its number. The README beside this folder says how the table is made.
 mod compare;
 mod faults;
 mod hex;

@@ -1,7 +1,7 @@
-// The lines of the table.
-//
-// A line is `block KEY NONCE COUNTER BLOCK` or `word KEY NONCE SLOT WORD`, with one space between its fields. The counter
-// and the slot are decimal, all else is hexadecimal. An empty line, or one that begins with `#`, says nothing.
+//! The lines of the table.
+//!
+//! A line is `block KEY NONCE COUNTER BLOCK` or `word KEY NONCE SLOT WORD`, with one space between its fields. The counter
+//! and the slot are decimal, all else is hexadecimal. An empty line, or one that begins with `#`, says nothing.
 use crate::hex::from_hex;
 
 #[derive(Clone, Copy)]

@@ -1,4 +1,5 @@
 -- One changed bit: its syndrome, what the syndrome finds, and the text put right.
+use mathlib.Core.Path.{_≡_}
 use mathlib.Core.Bool.{cond}
 use mathlib.Core.List.{List}
 use Prim.Native.Nat.{ℕ}
@@ -9,6 +10,7 @@ use Rattle.std.specs.declared.option.Option.the-variants.{Some, None}
 use Rattle.bits.specs.Bits.{flip}
 use Rattle.bits.specs.Columns.{place, units}
 use Rattle.family.specs.Meaning.{Meaning, digest-of}
+use Rattle.walkthrough.specs.declared.mending.Arrival.{Arrival}
 use Rattle.walkthrough.specs.declared.mending.Finding.{Finding}
 use Rattle.walkthrough.specs.declared.mending.Finding.the-variants.{Clean, Text, Tag, Unknown}
 
@@ -34,3 +36,9 @@ mended Clean text = text
 mended (Text p) text = flip text p
 mended (Tag k) text = text
 mended Unknown text = text
+
+-- a text that arrived was checked against its tag, and is now put right
+pub record Received (key : Meaning) (m : ℕ) (text : List ℕ) (tag pad : ℕ) (a : Arrival) (now-text : List ℕ) : Type 0 where
+  pub checked : a .syndrome ≡ syndrome key m text tag pad
+  pub found : a .finding ≡ finding (a .syndrome) (key .columns m) (key .width)
+  pub put-right : now-text ≡ mended (a .finding) text

@@ -1,8 +1,6 @@
 //! The same job at full size: a text of 1,016 bits under a key of width 64.
-use crate::mending::Finding;
-use crate::mending::find;
-use crate::mending::put_right;
-use crate::mending::syndrome;
+use crate::mending::Arrival;
+use crate::mending::receive;
 use crate::printing::FindingDisplay;
 use bits::flip_bit;
 use family::AdmissionRefusalError;
@@ -12,15 +10,12 @@ use family::OutOfReachError;
 use family::RawKey;
 use lfsr::MacCFamily;
 use lfsr::MacCKey;
+use pads::CipherPads;
+use pads::CipherSource;
+use pads::PadFaultError;
+use pads::PadSource;
+use pads::first_bits;
 use std::error::AnyError;
-
-// What came of one changed bit.
-#[derive(Clone, Copy)]
-struct Mended {
-    number: u64,
-    finding: Finding,
-    right: bool,
-}
 
 const RAW: RawKey = RawKey {
     degree: 63,
@@ -34,7 +29,25 @@ const TEXT: [u8; 127] =
 
 const M: usize = 1016;
 
-const PAD: u64 = 0x0f1e_2d3c_4b5a_6978;
+const SLOT: u32 = 9021;
+
+// Key and nonce of the cipher source. A maker draws them; here they are for show.
+const CIPHER_KEY: [u8; 32] = *b"a key for show, 32 bytes of it..";
+
+const CIPHER_NONCE: [u8; 12] = *b"and a nonce.";
+
+#[derive(Clone, Copy)]
+struct Sent {
+    pad: u64,
+    tag: u64,
+}
+
+// What came of one changed bit, and whether the text is again what was sent.
+#[derive(Clone, Copy)]
+struct Mended {
+    arrival: Arrival,
+    right: bool,
+}
 
 fn show_key(rt: &impl Print, key: &MacCKey) -> Result<(), AnyError> {
     let width = key.width();
@@ -52,48 +65,53 @@ fn show_key(rt: &impl Print, key: &MacCKey) -> Result<(), AnyError> {
     Ok(())
 }
 
-// One bit of the text changed on the way; tells the place that was found and whether the text is right again.
-fn change_text(key: &MacCKey, tag: u64, place: usize) -> Result<Mended, OutOfReach> {
-    let mut arrived = TEXT;
-    flip_bit(&mut arrived, place);
-    let number = syndrome(key, &arrived, M, tag, PAD)?;
-    let finding = find(key, number, M)?;
-    put_right(&mut arrived, finding);
-    let right = arrived == TEXT;
+fn send(rt: &impl Print, key: &MacCKey) -> Result<Sent, AnyError> {
+    let digest = key.digest(&TEXT, M)?;
+    println!(rt, "  text of 127 bytes: digest {digest:016x}")?;
+    let cipher = CipherSource::new(CIPHER_KEY, CIPHER_NONCE);
+    let pad = first_bits(cipher.word(SLOT)?, key.width());
+    let tag = digest ^ pad;
+    println!(
+        rt,
+        "  pad {pad:016x} from the cipher source, slot {SLOT}: tag {tag:016x}"
+    )?;
+    Ok(Sent { pad, tag })
+}
+
+// One bit of the text changed on the way.
+fn change_text(key: &MacCKey, sent: Sent, place: usize) -> Result<Mended, OutOfReach> {
+    let mut text = TEXT;
+    flip_bit(&mut text, place);
+    let arrival = receive(key, &mut text, M, sent.tag, sent.pad)?;
     Ok(Mended {
-        number,
-        finding,
-        right,
+        arrival,
+        right: text == TEXT,
     })
 }
 
 // One bit of the tag, of this weight, changed on the way.
-fn change_tag(key: &MacCKey, tag: u64, weight: u64) -> Result<Mended, OutOfReach> {
-    let mut arrived = TEXT;
-    let number = syndrome(key, &arrived, M, tag ^ weight, PAD)?;
-    let finding = find(key, number, M)?;
-    put_right(&mut arrived, finding);
-    let right = arrived == TEXT;
+fn change_tag(key: &MacCKey, sent: Sent, weight: u64) -> Result<Mended, OutOfReach> {
+    let mut text = TEXT;
+    let arrival = receive(key, &mut text, M, sent.tag ^ weight, sent.pad)?;
     Ok(Mended {
-        number,
-        finding,
-        right,
+        arrival,
+        right: text == TEXT,
     })
 }
 
-fn show_places(rt: &impl Print, key: &MacCKey, tag: u64) -> Result<(), AnyError> {
+fn show_some(rt: &impl Print, key: &MacCKey, sent: Sent) -> Result<(), AnyError> {
     for place in [0, 507, 1015] {
-        let mended = change_text(key, tag, place)?;
-        let number = mended.number;
-        let finding = mended.finding;
+        let arrival = change_text(key, sent, place)?.arrival;
+        let number = arrival.syndrome;
+        let finding = arrival.finding;
         println!(
             rt,
             "  text bit {place} changed: syndrome {number:016x}, found at {finding}"
         )?;
     }
-    let mended = change_tag(key, tag, 1)?;
-    let number = mended.number;
-    let finding = mended.finding;
+    let arrival = change_tag(key, sent, 1)?.arrival;
+    let number = arrival.syndrome;
+    let finding = arrival.finding;
     println!(
         rt,
         "  tag bit 63 changed: syndrome {number:016x}, found at {finding}"
@@ -101,16 +119,16 @@ fn show_places(rt: &impl Print, key: &MacCKey, tag: u64) -> Result<(), AnyError>
     Ok(())
 }
 
-fn change_each(rt: &impl Print, key: &MacCKey, tag: u64) -> Result<(), AnyError> {
+fn change_each(rt: &impl Print, key: &MacCKey, sent: Sent) -> Result<(), AnyError> {
     let mut text_right = 0u32;
     for place in 0..M {
-        if change_text(key, tag, place)?.right {
+        if change_text(key, sent, place)?.right {
             text_right = text_right.saturating_add(1);
         }
     }
     let mut tag_right = 0u32;
     for place in 0..64u32 {
-        if change_tag(key, tag, 1 << place)?.right {
+        if change_tag(key, sent, 1 << place)?.right {
             tag_right = tag_right.saturating_add(1);
         }
     }
@@ -128,10 +146,7 @@ fn change_each(rt: &impl Print, key: &MacCKey, tag: u64) -> Result<(), AnyError>
 pub fn show(rt: &impl Print) -> Result<(), AnyError> {
     let key = MacCKey::admit(RAW)?;
     show_key(rt, &key)?;
-    let digest = key.digest(&TEXT, M)?;
-    let tag = digest ^ PAD;
-    println!(rt, "  text of 127 bytes: digest {digest:016x}")?;
-    println!(rt, "  pad {PAD:016x}: tag {tag:016x}")?;
-    show_places(rt, &key, tag)?;
-    change_each(rt, &key, tag)
+    let sent = send(rt, &key)?;
+    show_some(rt, &key, sent)?;
+    change_each(rt, &key, sent)
 }

@@ -3,7 +3,7 @@ ghost use Rattle.bits.specs.Columns.{place, units as unit-columns};
 ghost use Rattle.family.specs.Admission.{length-questions, reach-number, text-questions};
 ghost use Rattle.family.specs.Meaning.{digest-of};
 ghost use Rattle.family.specs.Questions.{Asked};
-ghost use Rattle.walkthrough.specs.Mending.{finding as finding-of, mended, syndrome as syndrome-of};
+ghost use Rattle.walkthrough.specs.Mending.{Received, finding as finding-of, mended, syndrome as syndrome-of};
 ghost use mathlib.Core.Path.{_≡_};
 use bits::flip_bit;
 use bits::unit_place;
@@ -57,4 +57,30 @@ pub fn put_right(text: &mut [u8], finding: Finding)
     if let Finding::Text(place) = finding {
         flip_bit(text, place);
     }
+}
+
+// What came of a text that arrived: its syndrome, and what that found.
+#[derive(Clone, Copy)]
+pub struct Arrival {
+    pub syndrome: u64,
+    pub finding: Finding,
+}
+
+// Checks a text that arrived with its tag, and puts it right where one changed bit is found in it.
+pub fn receive<F: Family>(
+    key: &F,
+    text: &mut [u8],
+    m: usize,
+    tag: u64,
+    pad: u64,
+) -> Result<Arrival, OutOfReach>
+    ensures { λ r. ⌜ Asked (text-questions (meaning (now (key .entry)) .reach) m (now (text .entry))) reach-number (λ a. Received (meaning (now (key .entry))) m (now (text .entry)) tag pad a (now (text .exit))) r ⌝ }
+{
+    let number = syndrome(key, text, m, tag, pad)?;
+    let finding = find(key, number, m)?;
+    put_right(text, finding);
+    Ok(Arrival {
+        syndrome: number,
+        finding,
+    })
 }

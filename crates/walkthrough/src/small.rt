@@ -1,7 +1,5 @@
 //! The small key, whose every number can be checked by hand.
-use crate::mending::find;
-use crate::mending::put_right;
-use crate::mending::syndrome;
+use crate::mending::receive;
 use crate::printing::BitRun;
 use crate::printing::BitRunDisplay;
 use crate::printing::FindingDisplay;
@@ -13,6 +11,12 @@ use family::OutOfReachError;
 use family::RawKey;
 use lfsr::MacCFamily;
 use lfsr::MacCKey;
+use pads::BookPads;
+use pads::PadBook;
+use pads::PadFaultDisplay;
+use pads::PadFaultError;
+use pads::PadSource;
+use pads::first_bits;
 use std::error::AnyError;
 
 const RAW: RawKey = RawKey {
@@ -27,7 +31,15 @@ const TEXT: [u8; 1] = [0b1011_0000];
 
 const M: usize = 7;
 
-const PAD: u64 = 5;
+// A pad book with one word, for slot 1. Its first four bits, 0101, are the pad.
+const BOOK: [u64; 1] = [0x5000_0000_0000_0000];
+
+// What was sent, and what it takes to check it.
+#[derive(Clone, Copy)]
+struct Sent {
+    pad: u64,
+    tag: u64,
+}
 
 // The column of a place is the digest of the text that has its only one there.
 fn column(key: &MacCKey, place: usize) -> Result<u64, OutOfReach> {
@@ -57,79 +69,89 @@ fn show_key(rt: &impl Print, key: &MacCKey) -> Result<(), AnyError> {
     Ok(())
 }
 
-fn show_tag(rt: &impl Print, key: &MacCKey) -> Result<u64, AnyError> {
+// The text under the pad of slot 1.
+fn send(rt: &impl Print, key: &MacCKey) -> Result<Sent, AnyError> {
     let text = BitRun {
         bytes: &TEXT,
         count: M,
     };
     let digest = key.digest(&TEXT, M)?;
-    let tag = digest ^ PAD;
     println!(
         rt,
-        "  text {text}: the ones choose columns 9, 5 and 10; digest 9 ⊕ 5 ⊕ 10 = {digest}"
+        "  text {text}: the ones choose columns 9, 5 and 10, so the digest is 9 ⊕ 5 ⊕ 10 = {digest}"
     )?;
-    println!(rt, "  pad {PAD}: tag {digest} ⊕ {PAD} = {tag}")?;
-    Ok(tag)
+    let book = PadBook::new(&BOOK);
+    let pad = first_bits(book.word(1)?, key.width());
+    let tag = digest ^ pad;
+    println!(
+        rt,
+        "  pad {pad} from the pad book, slot 1: the tag is {digest} ⊕ {pad} = {tag}"
+    )?;
+    if let Err(fault) = book.word(2) {
+        let number = fault.number();
+        println!(rt, "  slot 2 is refused with {number}: {fault}")?;
+    }
+    Ok(Sent { pad, tag })
 }
 
 // One bit of the text changed on the way.
-fn change_text(rt: &impl Print, key: &MacCKey, tag: u64, place: usize) -> Result<bool, AnyError> {
-    let mut arrived = TEXT;
-    flip_bit(&mut arrived, place);
-    let before = arrived;
-    let number = syndrome(key, &arrived, M, tag, PAD)?;
-    let finding = find(key, number, M)?;
-    put_right(&mut arrived, finding);
+fn change_text(rt: &impl Print, key: &MacCKey, sent: Sent, place: usize) -> Result<bool, AnyError> {
+    let mut text = TEXT;
+    flip_bit(&mut text, place);
+    let before = text;
+    let arrival = receive(key, &mut text, M, sent.tag, sent.pad)?;
     let came = BitRun {
         bytes: &before,
         count: M,
     };
     let mended = BitRun {
-        bytes: &arrived,
+        bytes: &text,
         count: M,
     };
+    let number = arrival.syndrome;
+    let finding = arrival.finding;
     println!(
         rt,
         "  text bit {place} changed: {came} arrives, syndrome {number}, found at {finding}, put right: {mended}"
     )?;
-    Ok(arrived[0] == TEXT[0])
+    Ok(text[0] == TEXT[0])
 }
 
 // One bit of the tag, of this weight, changed on the way: the text is left as it is.
 fn change_tag(
     rt: &impl Print,
     key: &MacCKey,
-    tag: u64,
+    sent: Sent,
     place: u32,
     weight: u64,
 ) -> Result<bool, AnyError> {
-    let mut arrived = TEXT;
-    let came = tag ^ weight;
-    let number = syndrome(key, &arrived, M, came, PAD)?;
-    let finding = find(key, number, M)?;
-    put_right(&mut arrived, finding);
-    let text = BitRun {
-        bytes: &arrived,
+    let mut text = TEXT;
+    let came = sent.tag ^ weight;
+    let arrival = receive(key, &mut text, M, came, sent.pad)?;
+    let kept = BitRun {
+        bytes: &text,
         count: M,
     };
+    let number = arrival.syndrome;
+    let finding = arrival.finding;
     println!(
         rt,
-        "  tag bit {place} changed: tag {came} arrives, syndrome {number}, found at {finding}, text as it was: {text}"
+        "  tag bit {place} changed: tag {came} arrives, syndrome {number}, found at {finding}, text as it was: {kept}"
     )?;
-    Ok(arrived[0] == TEXT[0])
+    Ok(text[0] == TEXT[0])
 }
 
-fn change_each(rt: &impl Print, key: &MacCKey, tag: u64) -> Result<(), AnyError> {
+fn change_each(rt: &impl Print, key: &MacCKey, sent: Sent) -> Result<(), AnyError> {
     let mut right = 0u32;
     println!(rt, "")?;
     println!(rt, "Each single bit of text and tag, changed in turn:")?;
     for place in 0..M {
-        if change_text(rt, key, tag, place)? {
+        if change_text(rt, key, sent, place)? {
             right = right.saturating_add(1);
         }
     }
     for place in 0..4u32 {
-        if change_tag(rt, key, tag, place, 8 >> place)? {
+        if change_tag(rt, key, sent, place, 8 >> place)? {
             right = right.saturating_add(1);
         }
     }
@@ -140,23 +162,23 @@ fn change_each(rt: &impl Print, key: &MacCKey, tag: u64) -> Result<(), AnyError>
     Ok(())
 }
 
-// Two changed bits: their columns together are a third column, so a wrong bit would be turned over.
-fn change_two(rt: &impl Print, key: &MacCKey, tag: u64) -> Result<(), AnyError> {
-    let mut arrived = TEXT;
-    flip_bit(&mut arrived, 0);
-    flip_bit(&mut arrived, 1);
-    let before = arrived;
-    let number = syndrome(key, &arrived, M, tag, PAD)?;
-    let finding = find(key, number, M)?;
-    put_right(&mut arrived, finding);
+// Two changed bits: their columns together are a third column, so a wrong bit is turned over.
+fn change_two(rt: &impl Print, key: &MacCKey, sent: Sent) -> Result<(), AnyError> {
+    let mut text = TEXT;
+    flip_bit(&mut text, 0);
+    flip_bit(&mut text, 1);
+    let before = text;
+    let arrival = receive(key, &mut text, M, sent.tag, sent.pad)?;
     let came = BitRun {
         bytes: &before,
         count: M,
     };
     let mended = BitRun {
-        bytes: &arrived,
+        bytes: &text,
         count: M,
     };
+    let number = arrival.syndrome;
+    let finding = arrival.finding;
     println!(rt, "")?;
     println!(
         rt,
@@ -168,7 +190,7 @@ fn change_two(rt: &impl Print, key: &MacCKey, tag: u64) -> Result<(), AnyError> 
     )?;
     println!(
         rt,
-        "  turning that bit over gives {mended}, which was never sent: refusing two changes takes distance 4"
+        "  turning that bit over gives {mended}, which was never sent: to refuse two changes takes distance 4"
     )?;
     Ok(())
 }
@@ -176,7 +198,7 @@ fn change_two(rt: &impl Print, key: &MacCKey, tag: u64) -> Result<(), AnyError> 
 pub fn show(rt: &impl Print) -> Result<(), AnyError> {
     let key = MacCKey::admit(RAW)?;
     show_key(rt, &key)?;
-    let tag = show_tag(rt, &key)?;
-    change_each(rt, &key, tag)?;
-    change_two(rt, &key, tag)
+    let sent = send(rt, &key)?;
+    change_each(rt, &key, sent)?;
+    change_two(rt, &key, sent)
 }
