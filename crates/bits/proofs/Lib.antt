@@ -5,3 +5,4 @@ pub mod Runs
 pub mod Picks
 pub mod UnitColumns
 pub mod Shifts
+pub mod Weights
