@@ -4,3 +4,5 @@ pub mod Masking
 pub mod Runs
 pub mod Picks
 pub mod UnitColumns
+pub mod Shifts
+pub mod Weights

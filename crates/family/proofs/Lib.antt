@@ -5,3 +5,5 @@ pub mod Laws
 pub mod OrbitColumns
 pub mod Places
 pub mod Deciding
+pub mod OddColumns
+pub mod LawSeparates

@@ -1,0 +1,6 @@
+//! CRC keys: the columns of a text are the powers of x modulo a generator polynomial.
+mod crc;
+mod generator;
+mod keys;
+
+pub use keys::CrcKey;

@@ -1,0 +1,3 @@
+-- Lemmas on odd columns, and on the layer that they make.
+mod OddedColumns
+mod Layers

@@ -1,0 +1,7 @@
+//! The parity layer: lengthens every column of a key by the bit that makes its ones odd, so that a key
+//! of distance 3 becomes one of distance 4.
+mod layer;
+mod ones;
+
+pub use layer::Parity;
+pub use layer::TooWide;
