@@ -1,1 +1,2 @@
--- The figures need no lemmas of their own.
+-- Lemmas on the keys of the figures.
+mod Forms

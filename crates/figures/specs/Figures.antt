@@ -9,11 +9,17 @@ use Rattle.bits.specs.Columns.{place}
 use Rattle.family.specs.declared.raw.RawKey.{RawKey}
 use Rattle.family.specs.Meaning.{Meaning, digest-of}
 use Rattle.family.specs.Questions.{Question, AllYes, FirstNo}
+use Rattle.crc.specs.Crc.{crc, crc-questions}
+use Rattle.parity.specs.Layered.{layered}
 use Rattle.lfsr.specs.Keys.{toeplitz, toeplitz-questions, mac-c, mac-c-questions}
 
 -- a raw key of degree 3 and coefficients 3, that is x^3 + x + 1, from a state and for a reach
 abbrev pub raw-key : ℕ → ℕ → RawKey
 raw-key state reach = record { degree = 3; coefficients = 3; state = state; reach = reach }
+
+-- a raw CRC key of degree 4 and coefficients 13, that is x^4 + x^3 + x^2 + 1, for a reach
+abbrev pub raw-crc : ℕ → RawKey
+raw-crc reach = record { degree = 4; coefficients = 13; state = 0; reach = reach }
 
 -- admission says yes, and admission refuses with a number
 abbrev pub Admitted : List Question → Type 0
@@ -33,6 +39,9 @@ HasDigest key m text digest = digest-of key m text ≡ digest
 abbrev pub HasTag : Meaning → (m : ℕ) (text : List ℕ) (pad : ℕ) → ℕ → Type 0
 HasTag key m text pad tag = bitXor (digest-of key m text) pad ≡ tag
 
+abbrev pub HasDistance : Meaning → ℕ → Type 0
+HasDistance key distance = key .distance ≡ distance
+
 abbrev pub HasPlace : Meaning → (m number : ℕ) → ℕ → Type 0
 HasPlace key m number at = place number (key .columns m) ≡ Some at
 
@@ -51,6 +60,11 @@ figures =
     ∷ HasColumns (toeplitz (raw-key 5 4)) 4 (5 ∷ 3 ∷ 7 ∷ 6 ∷ [])
     ∷ Admitted (toeplitz-questions (raw-key 5 4))
     ∷ RefusedWith 6 (toeplitz-questions (raw-key 5 5))
+    ∷ HasColumns (crc (raw-crc 3)) 3 (14 ∷ 7 ∷ 13 ∷ [])
+    ∷ HasDistance (crc (raw-crc 3)) 4
+    ∷ Admitted (crc-questions (raw-crc 3))
+    ∷ RefusedWith 6 (crc-questions (raw-crc 4))
+    ∷ HasColumns (layered (toeplitz (raw-key 5 4))) 4 (11 ∷ 7 ∷ 14 ∷ 13 ∷ [])
     ∷ []
 
 -- every figure of a list is right

@@ -4,12 +4,14 @@ mod mending;
 mod printing;
 mod refused;
 mod small;
+mod watching;
 
 use std::error::AnyError;
 
 fn run(rt: &LibcRuntime) -> Result<(), AnyError> {
     small::show(rt)?;
     full_size::show(rt)?;
+    watching::show(rt)?;
     refused::show(rt)?;
     let figures = figures::figures_proved();
     println!(rt, "")?;

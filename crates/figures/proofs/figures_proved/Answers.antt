@@ -1,53 +1,32 @@
 use mathlib.Core.Path.{refl}
-use mathlib.Core.List.{List, _++_}
-use mathlib.Core.Logic.{inl, inr}
 use native.Mathlib.Omega.{arith}
-use Prim.Native.Nat.{ℕ}
 use lib.Count.{ones, onesIn}
 use Rattle.bits.specs.Bits.{bits-of}
-use Rattle.bits.specs.Columns.{units}
-use Rattle.family.specs.Meaning.{Meaning}
-use Rattle.family.proofs.Deciding.{separate-true, separate-false}
+use Rattle.crc.specs.Crc.{crc}
+use Rattle.crc.specs.Powers.{times-x}
+use Rattle.family.specs.declared.raw.Start.the-variants.{Zero, Nonzero}
 use Rattle.lfsr.specs.Register.{step}
 use Rattle.lfsr.specs.Keys.{evened, toeplitz, mac-c}
-use Rattle.figures.specs.Figures.{raw-key}
+use Rattle.parity.specs.Layered.{odded}
+use Rattle.figures.specs.Figures.{raw-key, raw-crc}
+use Rattle.figures.proofs.Forms.{register-formed, crc-formed, admitted, refused}
 use Rattle.figures.proofs.figures_proved.Needs as need
 
--- a key's columns and unit columns at its reach
-abbrev all-columns : Meaning → List ℕ
-all-columns key = key .columns (key .reach) ++ units (key .width)
-
 pub returns : need.returns
-unfolding bits-of step evened ones onesIn
+unfolding bits-of step evened times-x odded ones onesIn
 returns c =
     record {
       count = refl;
       stand = (
         refl,
-        (
-          ((omega arith, omega arith), (omega arith, (refl, ((omega arith, omega arith), ((omega arith, omega arith), (separate-true (all-columns (mac-c (raw-key 4 7))) refl, tt)))))),
-          (
-            inr ((omega arith, omega arith), inr (omega arith, inr (refl, inr ((omega arith, omega arith), inr ((omega arith, omega arith), inl (separate-false (all-columns (mac-c (raw-key 4 8))) refl, refl)))))),
-            (
-              refl,
-              (
-                refl,
-                (
-                  refl,
-                  (
-                    refl,
-                    (
-                      ((omega arith, omega arith), (omega arith, (refl, ((omega arith, omega arith), ((omega arith, omega arith), (separate-true (all-columns (toeplitz (raw-key 5 4))) refl, tt)))))),
-                      (
-                        inr ((omega arith, omega arith), inr (omega arith, inr (refl, inr ((omega arith, omega arith), inr ((omega arith, omega arith), inl (separate-false (all-columns (toeplitz (raw-key 5 5))) refl, refl)))))),
-                        tt,
-                      ),
-                    ),
-                  ),
-                ),
-              ),
-            ),
-          ),
-        ),
+        (admitted Nonzero (raw-key 4 7) (mac-c (raw-key 4 7)) (register-formed 4 7 (omega arith) (omega arith) (omega arith) (omega arith)) refl,
+        (refused Nonzero (raw-key 4 8) (mac-c (raw-key 4 8)) (register-formed 4 8 (omega arith) (omega arith) (omega arith) (omega arith)) refl,
+        (refl, (refl, (refl, (refl,
+        (admitted Nonzero (raw-key 5 4) (toeplitz (raw-key 5 4)) (register-formed 5 4 (omega arith) (omega arith) (omega arith) (omega arith)) refl,
+        (refused Nonzero (raw-key 5 5) (toeplitz (raw-key 5 5)) (register-formed 5 5 (omega arith) (omega arith) (omega arith) (omega arith)) refl,
+        (refl, (refl,
+        (admitted Zero (raw-crc 3) (crc (raw-crc 3)) (crc-formed 3 (omega arith) (omega arith)) refl,
+        (refused Zero (raw-crc 4) (crc (raw-crc 4)) (crc-formed 4 (omega arith) (omega arith)) refl,
+        (refl, tt)))))))))))))
       );
     }
