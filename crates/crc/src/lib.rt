@@ -3,4 +3,5 @@ mod crc;
 mod generator;
 mod keys;
 
+pub use crc::CrcFamily;
 pub use keys::CrcKey;

@@ -4,4 +4,7 @@ mod layer;
 mod ones;
 
 pub use layer::Parity;
+pub use layer::ParityClone;
+pub use layer::ParityFamily;
 pub use layer::TooWide;
+pub use layer::TooWideClone;
