@@ -1,7 +1,7 @@
 -- The digest, bit by bit: Horner's rule.
 use mathlib.Core.Path.{_≡_, refl, sym, ap, ap₂, _∙_}
 use mathlib.Core.Bool.{Bool, true, false, cond}
-use mathlib.Core.List.{List, [], _∷_, _++_}
+use mathlib.Core.List.{List, _∷_, _++_}
 use mathlib.Core.Logic.{_⊎_, ⊎-elim}
 use Prim.Native.Nat.{ℕ, zero, suc, _+_, _-_, _/_, _%_, _^_, _≤_, _<_}
 use native.Mathlib.Omega.{arith}
@@ -12,7 +12,8 @@ use Rattle.bits.specs.Columns.{picked}
 use Rattle.bits.proofs.Picks.{picked-nil}
 use Rattle.family.specs.Orbits.{iterate}
 use Rattle.family.proofs.OrbitColumns.{iterate-add}
-use Rattle.crc.specs.Powers.{times-x, power, crc-columns, completed}
+use Rattle.crc.specs.Horner.{completed}
+use Rattle.crc.specs.Powers.{times-x, power, crc-columns}
 use Rattle.crc.proofs.TimesX.{times-x-zero, times-x-xor}
 use Rattle.crc.proofs.Powers.{power-top}
 

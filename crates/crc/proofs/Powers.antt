@@ -1,6 +1,6 @@
 -- The powers of x modulo a generator: when they are all different, and their places among the columns.
 use mathlib.Core.Path.{_≡_, refl, sym, ap, ap₂, subst, _∙_}
-use mathlib.Core.List.{List, [], _∷_, _++_}
+use mathlib.Core.List.{List, _∷_, _++_}
 use mathlib.Core.Logic.{_≢_}
 use Prim.Native.Nat.{ℕ, zero, suc, _+_, _-_, _%_, _^_, _≤_, _<_}
 use native.Mathlib.Omega.{arith}
@@ -12,7 +12,7 @@ use Rattle.std.specs.shelf.Lists.{All}
 use Rattle.bits.specs.Columns.{units}
 use Rattle.bits.proofs.Xors.{ones-one}
 use Rattle.family.specs.Meaning.{Separate}
-use Rattle.family.specs.Orbits.{iterate, orbit}
+use Rattle.family.specs.Orbits.{orbit}
 use Rattle.family.proofs.OddColumns.{Odd}
 use Rattle.family.proofs.OrbitColumns.{length-orbit, getD-orbit, iterate-suc, iterate-stays, separate-orbit, again-separate}
 use Rattle.family.proofs.Separates.{separate-part}

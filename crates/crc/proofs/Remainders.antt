@@ -1,14 +1,14 @@
 -- The powers of x are what they are called: remainders of polynomial division.
 use mathlib.Core.Path.{_≡_, refl, sym, ap, ap₂, subst, _∙_}
-use Prim.Native.Nat.{ℕ, zero, suc, _+_, _-_, _*_, _/_, _%_, _^_, _≤_, _<_}
+use Prim.Native.Nat.{ℕ, zero, suc, _+_, _*_, _/_, _%_, _^_, _≤_, _<_}
 use native.Mathlib.Omega.{arith}
 use native.Mathlib.Nat.{mod-lt, mul-assoc, pow-suc, zero-mul, one-mul}
 use native.Mathlib.Numerals.{one-add}
-use lib.Bits.{bitXor, xor-assoc, xor-comm, xor-self, xor-zero-l, xor-zero-r, xor-shifted}
+use lib.Bits.{bitXor, xor-assoc, xor-comm, xor-self, xor-shifted}
 use lib.Pow.{pow-pos, split, shr-lt}
 use Rattle.bits.proofs.Shifts.{xor-twice}
 use Rattle.family.proofs.OrbitColumns.{iterate-suc, iterate-stays}
-use Rattle.crc.specs.Polynomials.{clmul, clmul-terms, Remainder}
+use Rattle.crc.specs.Polynomials.{clmul, clmul-terms}
 use Rattle.crc.specs.Powers.{times-x, power, PowersAreRemainders}
 use Rattle.crc.proofs.TimesX.{times-x-is, times-x-lt, xor-swap}
 

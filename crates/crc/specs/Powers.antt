@@ -2,10 +2,8 @@
 use mathlib.Core.List.{List, [], _∷_}
 use Prim.Native.Nat.{ℕ, zero, suc, _+_, _*_, _/_, _%_, _^_, _≤_, _<_}
 use lib.Bits.{bitXor}
-use Rattle.bits.specs.Columns.{picked}
 use Rattle.family.specs.Orbits.{iterate}
 use Rattle.crc.specs.Polynomials.{Remainder}
-use mathlib.Core.Bool.{Bool}
 
 -- x * a mod g, where the terms of a are below x^n: a shifted up, with the terms of c in place of a term x^n
 unfoldable pub times-x : ℕ → ℕ → ℕ → ℕ
@@ -27,8 +25,3 @@ falling n c low (suc m) = power n c (low + m) ∷ falling n c low m
 -- the column at place i of a text of m bits is x^(n + m - 1 - i) mod g
 abbrev pub crc-columns : ℕ → ℕ → ℕ → List ℕ
 crc-columns n c m = falling n c n m
-
--- The digest of a whole text, from the digest of its bits so far and the bits to come, of which `left` count:
--- each of them multiplies by x what came before.
-abbrev pub completed : ℕ → ℕ → ℕ → ℕ → List Bool → ℕ
-completed n c digest left rest = bitXor (iterate (times-x n c) left digest) (picked rest (crc-columns n c left))

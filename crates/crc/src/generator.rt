@@ -3,7 +3,8 @@
 ghost use Prim.Native.Nat.{_*_, _-_, _≤_};
 ghost use Rattle.bits.specs.Bits.{bits, bits-of};
 ghost use Rattle.bits.specs.Columns.{picked, units};
-ghost use Rattle.crc.specs.Powers.{completed, crc-columns, times-x};
+ghost use Rattle.crc.specs.Horner.{completed};
+ghost use Rattle.crc.specs.Powers.{crc-columns, times-x};
 ghost use Rattle.family.specs.Meaning.{Separate};
 ghost use Rattle.std.specs.Orderings.{Decides};
 ghost use lib.ListN.{length};

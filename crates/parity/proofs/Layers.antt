@@ -1,6 +1,5 @@
 -- The layer over a lawful key.
 use mathlib.Core.Path.{_≡_, refl, sym, ap, ap₂, subst, _∙_}
-use mathlib.Core.Bool.{Bool, true, false, cond}
 use mathlib.Core.List.{List, _++_, map}
 use mathlib.Core.Logic.{⊎-elim}
 use Prim.Native.Nat.{ℕ, suc, _+_, _*_, _%_, _^_, _≤_, _<_}
@@ -14,7 +13,7 @@ use lib.Pow.{pow-mono}
 use Rattle.std.proofs.shelf.Lists.{length-map}
 use Rattle.std.proofs.shelf.Tests.{cases-lt, cond-true, cond-false, le-leb, lt-leb}
 use Rattle.bits.specs.Bits.{bits, weight}
-use Rattle.bits.specs.Columns.{picked, units}
+use Rattle.bits.specs.Columns.{units}
 use Rattle.bits.proofs.Picks.{picked-lt}
 use Rattle.family.specs.Meaning.{Meaning, Lawful, Separate, digest-of}
 use Rattle.family.proofs.LawSeparates.{lawful-separate}

@@ -1,4 +1,5 @@
-use mathlib.Core.Path.{_≡_, ap₂, _∙_}
+-- The shift leaves room for the parity bit.
+use mathlib.Core.Path.{ap₂, _∙_}
 use Prim.Native.Nat.{ℕ, _+_, _*_, _%_, _^_, _<_}
 use native.Mathlib.Omega.{arith}
 use native.Mathlib.Nat.{mod-eq-of-lt}

@@ -1,3 +1,4 @@
+-- What the bytes of a text keep true, one after another.
 use mathlib.Core.Path.{_≡_}
 use Prim.Native.Nat.{_%_}
 use lib.Count.{ones}

@@ -1,4 +1,5 @@
-use mathlib.Core.Path.{_≡_, refl}
+-- Every admitted key keeps the law.
+use mathlib.Core.Path.{_≡_}
 use mathlib.Core.List.{_++_}
 use mathlib.Core.Logic.{⊎-elim}
 use Prim.Native.Nat.{ℕ, _+_, _%_, _^_, _≤_, _<_}

@@ -1,3 +1,4 @@
+-- Admission answers its questions in order.
 use mathlib.Core.Path.{refl}
 use mathlib.Core.Logic.{inl}
 use Rattle.std.proofs.shelf.Results.{err-from-errBy}

@@ -1,3 +1,4 @@
+-- The walk meets the number at its first place, since no column comes twice.
 use mathlib.Core.Path.{_≡_, sym, ap, _∙_}
 use mathlib.Core.Logic.{⊎-elim}
 use Prim.Native.Nat.{ℕ, _+_, _-_}

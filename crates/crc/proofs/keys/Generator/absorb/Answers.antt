@@ -1,4 +1,5 @@
-use mathlib.Core.Path.{_≡_, sym, ap, ap₂, _∙_}
+-- A byte taken in leaves the completed digest as it was.
+use mathlib.Core.Path.{_≡_, ap, ap₂, _∙_}
 use mathlib.Core.Bool.{cond}
 use mathlib.Core.List.{_++_}
 use mathlib.Core.Logic.{_⊎_, inl, inr, ⊎-elim}
@@ -8,7 +9,7 @@ use lib.Bits.{bitXor}
 use lib.Dec.{eqb}
 use Rattle.std.proofs.shelf.Tests.{cases-lt}
 use Rattle.bits.specs.Bits.{bits-of}
-use Rattle.crc.specs.Powers.{completed}
+use Rattle.crc.specs.Horner.{completed}
 use Rattle.crc.proofs.Digests.{place-completed, byte-completed}
 use Rattle.crc.proofs.keys.Generator.absorb.Needs as need
 

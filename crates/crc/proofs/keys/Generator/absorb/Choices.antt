@@ -1,9 +1,10 @@
+-- What the bits of a byte keep true, one after another.
 use mathlib.Core.Path.{_≡_}
 use mathlib.Core.Bool.{Bool}
 use mathlib.Core.List.{List, _++_}
 use Prim.Native.Nat.{_-_}
 use Rattle.bits.specs.Bits.{bits-of}
-use Rattle.crc.specs.Powers.{completed}
+use Rattle.crc.specs.Horner.{completed}
 use Rattle.crc.proofs.keys.Generator.absorb.Given as given
 
 -- what is left of the byte, and what comes after it, completes the digest

@@ -1,11 +1,12 @@
+-- With all bytes taken in, the digest is complete.
 use mathlib.Core.Path.{_≡_, sym, ap, _∙_}
-use mathlib.Core.List.{List, []}
+use mathlib.Core.List.{List}
 use Prim.Native.Nat.{ℕ, _+_}
 use native.Mathlib.Omega.{arith}
 use lib.ListN.{drop}
 use Rattle.std.proofs.shelf.Lists.{at-drop-more}
 use Rattle.bits.specs.Bits.{bits}
-use Rattle.crc.specs.Powers.{completed}
+use Rattle.crc.specs.Horner.{completed}
 use Rattle.crc.proofs.Digests.{all-completed, none-completed}
 use Rattle.crc.proofs.keys.Generator.digest.Needs as need
 

@@ -1,9 +1,11 @@
+-- What the bytes of a text keep true, one after another.
 use mathlib.Core.Path.{_≡_}
 use Prim.Native.Nat.{_≤_, _-_, _*_}
 use lib.ListN.{length, drop}
 use Rattle.bits.specs.Bits.{bits}
 use Rattle.bits.specs.Columns.{picked}
-use Rattle.crc.specs.Powers.{completed, crc-columns}
+use Rattle.crc.specs.Horner.{completed}
+use Rattle.crc.specs.Powers.{crc-columns}
 use Rattle.crc.proofs.keys.Generator.digest.Given as given
 
 -- the bytes to come complete the digest

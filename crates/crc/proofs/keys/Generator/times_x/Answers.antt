@@ -1,3 +1,4 @@
+-- The shift under its masks is the multiplication by x.
 use native.Mathlib.Omega.{arith}
 use Rattle.crc.proofs.TimesX.{times-x-masked}
 use Rattle.crc.proofs.keys.Generator.times_x.Needs as need

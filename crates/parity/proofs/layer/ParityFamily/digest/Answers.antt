@@ -1,4 +1,5 @@
-use mathlib.Core.Path.{_≡_, sym, subst, _∙_}
+-- The digest below with its parity bit is the layer's digest.
+use mathlib.Core.Path.{sym, subst, _∙_}
 use Prim.Native.Nat.{ℕ, _^_, _≤_, _<_}
 use native.Mathlib.Omega.{arith}
 use Rattle.parity.specs.Layered.{widest-below}

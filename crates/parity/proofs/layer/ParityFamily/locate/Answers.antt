@@ -1,9 +1,10 @@
-use mathlib.Core.Path.{_≡_, sym, ap, subst, _∙_}
+-- The place below is the layer's, where the number has odd ones.
+use mathlib.Core.Path.{sym, ap, _∙_}
 use Prim.Native.Nat.{_≤_}
 use native.Mathlib.Omega.{arith}
 use Rattle.bits.specs.Columns.{place}
 use Rattle.family.specs.Meaning.{Meaning}
-use Rattle.parity.specs.Layered.{layered, widest-below}
+use Rattle.parity.specs.Layered.{widest-below}
 use Rattle.parity.proofs.OddedColumns.{place-odd, place-even}
 use Rattle.parity.proofs.Layers.{layered-narrow, reach-layered}
 use Rattle.parity.proofs.layer.ParityFamily.locate.Needs as need

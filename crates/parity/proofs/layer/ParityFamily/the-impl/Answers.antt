@@ -1,3 +1,4 @@
+-- A layer over a lawful key is lawful.
 use Rattle.parity.proofs.Layers.{layered-lawful}
 use Rattle.parity.proofs.layer.ParityFamily.the-impl.Needs as need
 
