@@ -32,7 +32,7 @@ const MAC_C: RawKey = RawKey {
 // A text of at most eight bits and its tag, with no pad: a pad changes no syndrome.
 #[derive(Clone, Copy)]
 struct Sent {
-    text: [u8; 1],
+    text: u8,
     m: usize,
     tag: u64,
 }
@@ -45,9 +45,15 @@ enum Outcome {
     Refused,
 }
 
-fn send<F: Family>(key: &F, text: [u8; 1], m: usize) -> Result<Sent, OutOfReach> {
-    let tag = key.digest(&text, m)?;
+fn send<F: Family>(key: &F, text: u8, m: usize) -> Result<Sent, OutOfReach> {
+    let tag = key.digest(&[text], m)?;
     Ok(Sent { text, m, tag })
+}
+
+fn flipped(text: u8, place: usize) -> u8 {
+    let mut bytes = [text];
+    flip_bit(&mut bytes, place);
+    bytes[0]
 }
 
 // The weight of a place of the tag.
@@ -64,16 +70,17 @@ fn arrive<F: Family>(key: &F, sent: Sent, places: &[usize]) -> Result<Outcome, O
     let mut tag = sent.tag;
     for place in places {
         if *place < sent.m {
-            flip_bit(&mut text, *place);
+            text = flipped(text, *place);
         } else {
             tag ^= weight(key.width(), *place - sent.m);
         }
     }
-    let arrival = receive(key, &mut text, sent.m, tag, 0)?;
+    let mut arrived = [text];
+    let arrival = receive(key, &mut arrived, sent.m, tag, 0)?;
     match arrival.finding {
         Finding::Unknown => Ok(Outcome::Refused),
         _ => {
-            if text[0] == sent.text[0] {
+            if arrived[0] == sent.text {
                 Ok(Outcome::Right)
             } else {
                 Ok(Outcome::Wrong)
@@ -82,18 +89,31 @@ fn arrive<F: Family>(key: &F, sent: Sent, places: &[usize]) -> Result<Outcome, O
     }
 }
 
-fn show_singles<F: Family>(rt: &impl Print, key: &F, sent: Sent, places: usize) -> Result<(), AnyError> {
+fn show_singles<F: Family>(
+    rt: &impl Print,
+    key: &F,
+    sent: Sent,
+    places: usize,
+) -> Result<(), AnyError> {
     let mut right = 0u32;
     for place in 0..places {
         if arrive(key, sent, &[place])? == Outcome::Right {
             right = right.saturating_add(1);
         }
     }
-    println!(rt, "  one bit changed, each of {places} in turn: {right} put right")?;
+    println!(
+        rt,
+        "  one bit changed, each of {places} in turn: {right} put right"
+    )?;
     Ok(())
 }
 
-fn show_pairs<F: Family>(rt: &impl Print, key: &F, sent: Sent, places: usize) -> Result<(), AnyError> {
+fn show_pairs<F: Family>(
+    rt: &impl Print,
+    key: &F,
+    sent: Sent,
+    places: usize,
+) -> Result<(), AnyError> {
     let mut pairs = 0u32;
     let mut refused = 0u32;
     for first in 0..places {
@@ -104,7 +124,10 @@ fn show_pairs<F: Family>(rt: &impl Print, key: &F, sent: Sent, places: usize) ->
             }
         }
     }
-    println!(rt, "  two bits changed, each of {pairs} pairs in turn: {refused} refused")?;
+    println!(
+        rt,
+        "  two bits changed, each of {pairs} pairs in turn: {refused} refused"
+    )?;
     Ok(())
 }
 
@@ -121,7 +144,7 @@ fn show_columns<F: Family>(rt: &impl Print, key: &F, m: usize) -> Result<(), Any
     Ok(())
 }
 
-fn show_key<F: Family>(rt: &impl Print, key: &F, text: [u8; 1], m: usize) -> Result<(), AnyError> {
+fn show_key<F: Family>(rt: &impl Print, key: &F, text: u8, m: usize) -> Result<(), AnyError> {
     let width = key.width();
     let reach = key.reach();
     let distance = key.distance();
@@ -135,13 +158,16 @@ fn show_key<F: Family>(rt: &impl Print, key: &F, text: [u8; 1], m: usize) -> Res
 
 pub fn show(rt: &impl Print) -> Result<(), AnyError> {
     println!(rt, "")?;
-    println!(rt, "A CRC key with an even number of terms: degree 4, coefficients 13 (x^4 + x^3 + x^2 + 1), reach 3")?;
-    show_key(rt, &CrcKey::admit(CRC)?, [0b1010_0000], 3)?;
+    println!(
+        rt,
+        "A CRC key with an even number of terms: degree 4, coefficients 13 (x^4 + x^3 + x^2 + 1), reach 3"
+    )?;
+    show_key(rt, &CrcKey::admit(CRC)?, 0b1010_0000, 3)?;
     println!(rt, "")?;
     println!(rt, "The parity layer over the small MAC-C key")?;
     let Ok(layered) = Parity::over(MacCKey::admit(MAC_C)?) else {
         println!(rt, "  refused: no room for a parity bit")?;
         return Ok(());
     };
-    show_key(rt, &layered, [0b1011_0000], 7)
+    show_key(rt, &layered, 0b1011_0000, 7)
 }

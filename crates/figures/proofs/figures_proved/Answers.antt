@@ -19,14 +19,42 @@ returns c =
       count = refl;
       stand = (
         refl,
-        (admitted Nonzero (raw-key 4 7) (mac-c (raw-key 4 7)) (register-formed 4 7 (omega arith) (omega arith) (omega arith) (omega arith)) refl,
-        (refused Nonzero (raw-key 4 8) (mac-c (raw-key 4 8)) (register-formed 4 8 (omega arith) (omega arith) (omega arith) (omega arith)) refl,
-        (refl, (refl, (refl, (refl,
-        (admitted Nonzero (raw-key 5 4) (toeplitz (raw-key 5 4)) (register-formed 5 4 (omega arith) (omega arith) (omega arith) (omega arith)) refl,
-        (refused Nonzero (raw-key 5 5) (toeplitz (raw-key 5 5)) (register-formed 5 5 (omega arith) (omega arith) (omega arith) (omega arith)) refl,
-        (refl, (refl,
-        (admitted Zero (raw-crc 3) (crc (raw-crc 3)) (crc-formed 3 (omega arith) (omega arith)) refl,
-        (refused Zero (raw-crc 4) (crc (raw-crc 4)) (crc-formed 4 (omega arith) (omega arith)) refl,
-        (refl, tt)))))))))))))
+        (
+          admitted Nonzero (raw-key 4 7) (mac-c (raw-key 4 7)) (register-formed 4 7 (omega arith) (omega arith) (omega arith) (omega arith)) refl,
+          (
+            refused Nonzero (raw-key 4 8) (mac-c (raw-key 4 8)) (register-formed 4 8 (omega arith) (omega arith) (omega arith) (omega arith)) refl,
+            (
+              refl,
+              (
+                refl,
+                (
+                  refl,
+                  (
+                    refl,
+                    (
+                      admitted Nonzero (raw-key 5 4) (toeplitz (raw-key 5 4)) (register-formed 5 4 (omega arith) (omega arith) (omega arith) (omega arith)) refl,
+                      (
+                        refused Nonzero (raw-key 5 5) (toeplitz (raw-key 5 5)) (register-formed 5 5 (omega arith) (omega arith) (omega arith) (omega arith)) refl,
+                        (
+                          refl,
+                          (
+                            refl,
+                            (
+                              admitted Zero (raw-crc 3) (crc (raw-crc 3)) (crc-formed 3 (omega arith) (omega arith)) refl,
+                              (
+                                refused Zero (raw-crc 4) (crc (raw-crc 4)) (crc-formed 4 (omega arith) (omega arith)) refl,
+                                (refl, tt),
+                              ),
+                            ),
+                          ),
+                        ),
+                      ),
+                    ),
+                  ),
+                ),
+              ),
+            ),
+          ),
+        ),
       );
     }
