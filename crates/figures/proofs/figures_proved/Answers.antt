@@ -1,3 +1,4 @@
+-- `figures_proved`: the figures in their order, by computation.
 use mathlib.Core.Path.{refl}
 use native.Mathlib.Omega.{arith}
 use lib.Count.{ones, onesIn}

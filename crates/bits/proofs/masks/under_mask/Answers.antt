@@ -1,3 +1,4 @@
+-- `under_mask`: the negated bit is a mask of all ones or of none.
 use mathlib.Core.Path.{_≡_, ap, _∙_}
 use mathlib.Core.Bool.{cond}
 use Prim.Native.Nat.{ℕ, _%_, _<_}

@@ -1,3 +1,4 @@
+-- `flip_bit`: one byte of the slice changes, in one bit; past the end nothing does.
 use mathlib.Core.Path.{_≡_, sym, ap, _∙_}
 use Prim.Native.Nat.{_-_, _*_, _/_, _%_, _^_, _<_}
 use native.Mathlib.Omega.{arith}

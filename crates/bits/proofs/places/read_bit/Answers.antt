@@ -1,3 +1,4 @@
+-- `read_bit`: the byte of the place, and in it the bit; past the end there is none.
 use mathlib.Core.Path.{_≡_, sym, ap, _∙_}
 use mathlib.Core.Bool.{false}
 use Prim.Native.Nat.{_-_, _/_, _%_, _^_, _<_, _≤_}

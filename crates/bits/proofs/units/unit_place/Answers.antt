@@ -1,3 +1,4 @@
+-- `unit_place`: the weight that is the number gives the place; no number of 64 bits has a weight beyond them.
 use mathlib.Core.Path.{_≡_, sym, ap, _∙_}
 use mathlib.Core.Logic.{⊎-elim}
 use Prim.Native.Nat.{ℕ, _^_, _<_, _≤_}

@@ -1,3 +1,4 @@
+-- `unit_place`: what its loop keeps.
 use mathlib.Core.Logic.{_≢_}
 use Prim.Native.Nat.{ℕ, _<_, _^_}
 use Rattle.bits.proofs.units.unit_place.Given as given

@@ -1,3 +1,4 @@
+-- `absorb`: one bit more, or no bit left.
 use mathlib.Core.Path.{_≡_, sym, ap, _∙_}
 use mathlib.Core.Bool.{cond}
 use mathlib.Core.List.{_++_}

@@ -1,3 +1,4 @@
+-- `absorb`: what its loop keeps.
 use mathlib.Core.Path.{_≡_}
 use mathlib.Core.Bool.{Bool}
 use mathlib.Core.List.{List, _++_}

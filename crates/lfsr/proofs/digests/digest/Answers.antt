@@ -1,3 +1,4 @@
+-- `digest`: one byte more, and no byte left.
 use mathlib.Core.Path.{_≡_, sym, _∙_}
 use mathlib.Core.List.{List}
 use Prim.Native.Nat.{ℕ, _+_}

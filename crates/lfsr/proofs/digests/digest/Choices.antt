@@ -1,3 +1,4 @@
+-- `digest`: what its loop keeps.
 use mathlib.Core.Path.{_≡_}
 use Prim.Native.Nat.{_≤_}
 use lib.ListN.{length, drop}

@@ -1,3 +1,4 @@
+-- `with_even_ones`: the shifted state and the parity of its ones stand side by side.
 use mathlib.Core.Path.{_≡_, ap, ap₂, _∙_}
 use Prim.Native.Nat.{ℕ, _%_, _*_, _^_, _<_}
 use native.Mathlib.Omega.{arith}

@@ -1,3 +1,4 @@
+-- MAC-C columns are separate just where the states are.
 use Prim.Native.Nat.{_+_}
 use Rattle.lfsr.specs.Keys.{states}
 use Rattle.lfsr.proofs.EvenOnes.{separate-evened, separate-from-evened}

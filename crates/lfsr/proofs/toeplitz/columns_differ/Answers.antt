@@ -1,3 +1,4 @@
+-- Toeplitz columns are separate just where the states are and none is a unit column.
 use mathlib.Core.Path.{_≡_, refl, sym, _∙_}
 use Prim.Native.Nat.{ℕ, _<_, _≤_, _^_}
 use native.Mathlib.Omega.{arith}

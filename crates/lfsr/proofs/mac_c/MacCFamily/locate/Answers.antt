@@ -1,3 +1,4 @@
+-- A number with odd ones is no column; one with even ones is found by its state.
 use mathlib.Core.Path.{_≡_, sym, ap, _∙_}
 use mathlib.Core.List.{List, map}
 use Prim.Native.Nat.{ℕ, _/_}

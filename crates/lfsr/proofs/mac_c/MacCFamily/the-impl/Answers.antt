@@ -1,3 +1,4 @@
+-- MAC-C keys keep the law: what admission found at the reach holds of every shorter text.
 use mathlib.Core.Path.{_≡_, refl, sym, ap, _∙_}
 use mathlib.Core.List.{map}
 use Prim.Native.Nat.{ℕ, _+_, _≤_, _<_}

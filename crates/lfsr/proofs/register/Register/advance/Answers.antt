@@ -1,3 +1,4 @@
+-- `advance`: shift, mask and the parity of the tapped bits give the step.
 use mathlib.Core.Path.{_≡_, sym, ap, subst, _∙_}
 use mathlib.Core.Bool.{Bool}
 use mathlib.Core.List.{List}

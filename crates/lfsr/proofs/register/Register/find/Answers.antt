@@ -1,3 +1,4 @@
+-- `find`: the first state that is the number, or that none is.
 use mathlib.Core.Path.{_≡_, sym, _∙_}
 use Prim.Native.Nat.{ℕ, _+_, _<_}
 use native.Mathlib.Omega.{arith}

@@ -1,3 +1,4 @@
+-- `keeps_apart`: the first state comes again, or all states are different.
 use mathlib.Core.Path.{_≡_, refl, sym, _∙_}
 use mathlib.Core.Logic.{⊎-elim}
 use Prim.Native.Nat.{ℕ, _+_, _<_, _≤_}

@@ -1,3 +1,4 @@
+-- `meets_unit`: a state has a single one, or none has.
 use mathlib.Core.Path.{_≡_, refl, sym, ap, _∙_}
 use Prim.Native.Nat.{ℕ, _+_, _<_, _≤_}
 use native.Mathlib.Omega.{arith}

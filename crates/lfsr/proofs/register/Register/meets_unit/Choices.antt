@@ -1,3 +1,4 @@
+-- `meets_unit`: what its loop keeps.
 use mathlib.Core.Path.{_≡_}
 use mathlib.Core.Logic.{_≢_}
 use Prim.Native.Nat.{ℕ, _<_}

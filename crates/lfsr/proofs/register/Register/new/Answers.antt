@@ -1,3 +1,4 @@
+-- `new`: what `check_form` asked, and that the reversed coefficients are the taps.
 use mathlib.Core.Path.{_≡_, ap, _∙_}
 use Prim.Native.Nat.{_-_, _/_, _^_}
 use native.Mathlib.Omega.{arith}

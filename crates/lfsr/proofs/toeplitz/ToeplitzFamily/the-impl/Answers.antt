@@ -1,3 +1,4 @@
+-- Toeplitz keys keep the law: what admission found at the reach holds of every shorter text.
 use mathlib.Core.Path.{_≡_, refl, sym, _∙_}
 use Prim.Native.Nat.{ℕ, _≤_, _<_}
 use native.Mathlib.Omega.{arith}
