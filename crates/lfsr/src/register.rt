@@ -3,7 +3,7 @@ ghost use Prim.Native.Nat.{_%_, _<_, _^_, _≤_};
 ghost use Rattle.bits.specs.Bits.{bits-of};
 ghost use Rattle.bits.specs.Columns.{place};
 ghost use Rattle.family.specs.Admission.{admission-number, form-questions};
-ghost use Rattle.family.specs.Meaning.{Separate};
+ghost use Rattle.family.specs.Meaning.{Separate, longest-reach};
 ghost use Rattle.family.specs.Questions.{Asked};
 ghost use Rattle.family.specs.declared.raw.Start.the-variants.{Nonzero};
 ghost use Rattle.lfsr.specs.Keys.{states};
@@ -26,7 +26,7 @@ pub struct Register {
     ghost formed: { (3 ≤ raw .degree) × (raw .degree ≤ 63) },
     ghost odd: { raw .coefficients % 2 ≡ 1 },
     ghost started: { (1 ≤ raw .state) × (raw .state < 2 ^ raw .degree) },
-    ghost reached: { (1 ≤ raw .reach) × (raw .reach ≤ 1016) },
+    ghost reached: { (1 ≤ raw .reach) × (raw .reach ≤ longest-reach) },
     ghost tapped: { taps ≡ mirrored (raw .degree) (raw .coefficients) },
 }
 
