@@ -1,0 +1,2 @@
+-- Lemmas on the account.
+pub mod Figures

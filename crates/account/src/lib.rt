@@ -1,0 +1,5 @@
+//! The account of a run, what the ends reply, and the promise of every run.
+mod theorems;
+
+pub use theorems::figures_stand;
+pub use theorems::new_ends_start;

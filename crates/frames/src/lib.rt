@@ -1,0 +1,1 @@
+//! A frame of a key: its layout, its syndrome, and what changed bits do.
