@@ -4,3 +4,8 @@ pub mod Masking
 pub mod Runs
 pub mod Picks
 pub mod UnitColumns
+pub mod Linear
+pub mod Weights
+pub mod Changes
+pub mod Bytes
+pub mod Locating
