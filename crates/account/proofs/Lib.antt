@@ -1,2 +1,8 @@
 -- Lemmas on the account.
 pub mod Figures
+pub mod Asking
+pub mod Following
+pub mod Steps
+pub mod Offers
+pub mod Thinning
+pub mod Running

@@ -1,5 +1,8 @@
 //! The account of a run, what the ends reply, and the promise of every run.
 mod theorems;
 
+pub use theorems::ends_follow;
+pub use theorems::every_run;
 pub use theorems::figures_stand;
+pub use theorems::first_no_decides;
 pub use theorems::new_ends_start;
