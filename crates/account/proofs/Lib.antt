@@ -6,3 +6,5 @@ pub mod Steps
 pub mod Offers
 pub mod Thinning
 pub mod Running
+pub mod Origins
+pub mod Sequences

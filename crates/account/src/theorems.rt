@@ -3,7 +3,7 @@ ghost use Rattle.account.specs.Questions.{First-no-decides};
 ghost use Rattle.account.specs.Ends.{Ends-follow};
 ghost use Rattle.account.specs.Figures.{Figures-stand};
 ghost use Rattle.account.specs.Promise.{Every-run};
-ghost use Rattle.account.specs.Runs.{Starts};
+ghost use Rattle.account.specs.Runs.{In-sequence, Origins, Splits, Starts};
 
 // A refusal is that of the first question answered no.
 pub fn first_no_decides() -> u8
@@ -26,9 +26,30 @@ pub fn every_run() -> u8
     0
 }
 
+// What is worked out for a call among others is its outcome at the account of those before it.
+pub fn outcomes_split() -> u8
+    ensures { λ _. ⌜ Splits ⌝ }
+{
+    0
+}
+
+// Every sealed frame came from an accepted seal of the run.
+pub fn sealed_frames_originate() -> u8
+    ensures { λ _. ⌜ Origins ⌝ }
+{
+    0
+}
+
 // Ends that were just created stand as the account of no calls says.
 pub fn new_ends_start() -> u8
     ensures { λ _. ⌜ Starts ⌝ }
+{
+    0
+}
+
+// A single call is a run, and runs that follow each other are a run.
+pub fn runs_in_sequence() -> u8
+    ensures { λ _. ⌜ In-sequence ⌝ }
 {
     0
 }
