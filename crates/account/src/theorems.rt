@@ -54,7 +54,7 @@ pub fn runs_in_sequence() -> u8
     0
 }
 
-// A small run, worked out call by call.
+// Small runs, worked out call by call.
 pub fn figures_stand() -> u8
     ensures { λ _. ⌜ Figures-stand ⌝ }
 {
