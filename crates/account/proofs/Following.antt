@@ -8,7 +8,7 @@ use Rattle.std.specs.declared.option.Option.the-variants.{Some, None}
 use Rattle.std.proofs.shelf.Lists.{map-push}
 use Rattle.family.specs.Meaning.{Meaning}
 use Rattle.account.specs.Questions.{Refusal, first-refusal}
-use Rattle.account.specs.Calls.{word, At-reader, At-door, Call, Seal, Open, Appoint, Strike, Withdraw, Wrote, Opened}
+use Rattle.account.specs.Calls.{word, At-reader, At-door, Seal, Open, Appoint, Strike, Withdraw, Wrote, Opened}
 use Rattle.account.specs.Keys.{Pending, next-key, appoint-questions, strike-questions, withdraw-questions}
 use Rattle.account.specs.Sealing.{seal-questions}
 use Rattle.account.specs.Opening.{open-questions, finding-under, place-under}

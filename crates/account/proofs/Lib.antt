@@ -9,3 +9,4 @@ pub mod Running
 pub mod Origins
 pub mod Sequences
 pub mod Verdicts
+pub mod Refusing

@@ -1,8 +1,8 @@
 -- What an open makes of a copy of a sealed frame.
 use mathlib.Core.Path.{_≡_, refl, sym, ap, ap₂, subst, _∙_}
-use mathlib.Core.Bool.{Bool, true, false, _||_}
-use mathlib.Core.List.{List, [], _∷_, _++_}
-use mathlib.Core.Logic.{_≢_, _⊎_, inl, inr}
+use mathlib.Core.Bool.{true, false, _||_}
+use mathlib.Core.List.{List}
+use mathlib.Core.Logic.{_≢_, inl, inr}
 use Prim.Native.Nat.{ℕ, _+_, _*_, _^_, _≤_, _<_}
 use native.Mathlib.Omega.{arith}
 use lib.Dec.{eqb, ltb, leb}
@@ -10,12 +10,10 @@ use lib.ListN.{length}
 use Rattle.std.specs.shelf.Lists.{All, Has}
 use Rattle.std.specs.Options.{isSome}
 use Rattle.std.specs.declared.option.Option.{Option}
-use Rattle.std.specs.declared.option.Option.the-variants.{Some, None}
+use Rattle.std.specs.declared.option.Option.the-variants.{None}
 use Rattle.std.proofs.shelf.Elements.{all-has}
 use Rattle.std.proofs.shelf.Tests.{eq-eqb, lt-ltb, le-leb, and-from, or-left, or-right, or-from, ne-eqb, cases-lt}
 use Rattle.bits.specs.Bits.{Bytes, weight}
-use Rattle.bits.specs.Columns.{picked, units}
-use Rattle.family.specs.Meaning.{Meaning, Lawful, Same}
 use Rattle.frames.specs.Limits.{longest-payload}
 use Rattle.frames.specs.Frames.{tag-size, text-size, pad-of, frame-of, payload-size, payload-of, spare-bits, syndrome}
 use Rattle.frames.specs.Findings.{Finding, Clean, Column, Unit-column, Nowhere, finding, mended, told-place, is-clean, is-somewhere, outside-bound}
@@ -23,7 +21,7 @@ use Rattle.frames.specs.Changed.{Distant, changed-places, Restores, Shows}
 use Rattle.frames.proofs.Copying.{frames-show}
 use Rattle.frames.proofs.Parts.{payload-size-is, length-frame, frame-spare}
 use Rattle.account.specs.Questions.{Refusal, first-refusal}
-use Rattle.account.specs.Calls.{Pads, word, At-door, Call, Open, Answer, Refused}
+use Rattle.account.specs.Calls.{Pads, word, At-door, Open}
 use Rattle.account.specs.Opening.{open-questions, finding-under, payload-under, place-under}
 use Rattle.account.specs.Account.{SealedFrame, Account, Step, governs, last-slot, opens, outcome}
 use Rattle.account.specs.Promise.{Copies, changed, Hands-over, Is-refused}

@@ -1,13 +1,13 @@
 -- Whole runs: what stays true along one, and the promise.
 use mathlib.Core.Path.{_≡_, refl, sym, ap, subst, _∙_}
 use mathlib.Core.List.{List, [], _∷_, _++_, map}
-use mathlib.Core.Logic.{_⊎_, inl, inr}
-use Prim.Native.Nat.{ℕ, _+_, _*_, _≤_, _<_}
+use mathlib.Core.Logic.{inl, inr}
+use Prim.Native.Nat.{ℕ, _+_, _*_, _≤_}
 use native.Mathlib.Omega.{arith}
 use lib.ListN.{length}
 use Rattle.std.specs.shelf.Lists.{All, Has}
 use Rattle.std.specs.declared.option.Option.{Option}
-use Rattle.std.specs.declared.option.Option.the-variants.{Some, None}
+use Rattle.std.specs.declared.option.Option.the-variants.{None}
 use Rattle.std.proofs.shelf.Lists.{map-push}
 use Rattle.std.proofs.shelf.Elements.{all-has, all-push, all-weaker, has-append-left}
 use Rattle.std.proofs.shelf.Tests.{eqb-true, ltb-true, leb-true, cases-lt}
@@ -16,11 +16,11 @@ use Rattle.family.specs.Meaning.{Meaning}
 use Rattle.frames.specs.Limits.{needed-reach}
 use Rattle.frames.specs.Frames.{payload-size}
 use Rattle.account.specs.Questions.{Refusal, first-refusal}
-use Rattle.account.specs.Calls.{Pads, word, Side, At-reader, At-door, Call, Open, Answer, Opened, Refused}
+use Rattle.account.specs.Calls.{Pads, word, Side, At-reader, At-door, Call, Open, Opened}
 use Rattle.account.specs.Keys.{key-questions, door-questions}
 use Rattle.account.specs.Opening.{place-under}
 use Rattle.account.specs.Account.{EndKeys, SealedFrame, HandedOver, Account, governs, last-slot, add-sealed, handed-entry, add-handed, opens, with-end, outcome, account-after, Creations, created}
-use Rattle.account.specs.Promise.{Accepted, Proper, Copies, changed, Hands-over, Is-refused, Strictly-rising, sealed-payloads, Opens-copies, Refuses-copies, Only-copies, Every-run}
+use Rattle.account.specs.Promise.{Accepted, Proper, Copies, changed, Strictly-rising, sealed-payloads, Opens-copies, Refuses-copies, Only-copies, Every-run}
 use Rattle.account.proofs.Asking.{passed}
 use Rattle.account.proofs.Steps.{Sound, open-asked, step-by, step-sound}
 use Rattle.account.proofs.Offers.{key-used, fits-from, copy-opens, copy-refused}

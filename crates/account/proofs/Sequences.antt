@@ -1,19 +1,19 @@
 -- Runs in parts: a call among others, and one run after another.
 use mathlib.Core.Path.{_≡_, refl, sym, ap, ap₂, subst, _∙_}
-use mathlib.Core.List.{List, [], _∷_, _++_, map, append-assoc, append-nil}
-use Prim.Native.Nat.{ℕ, _+_, _*_, _≤_}
+use mathlib.Core.List.{List, [], _∷_, _++_, map, append-assoc}
+use Prim.Native.Nat.{_+_, _*_, _≤_}
 use Rattle.std.specs.shelf.Lists.{All}
 use Rattle.std.proofs.shelf.Elements.{all-append}
 use Rattle.std.proofs.shelf.Lists.{map-append}
 use Rattle.family.specs.Meaning.{Meaning}
 use Rattle.account.specs.Calls.{Call}
-use Rattle.account.specs.Account.{EndKeys, Account, Step, outcome, outcomes, account-after, Creations, created}
+use Rattle.account.specs.Account.{Account, Step, outcome, outcomes, account-after, Creations, created}
 use Rattle.account.specs.Ends.{Ends, Replied, Reaches, ends-of, reply}
 use Rattle.account.specs.Promise.{Accepted, Proper, Promise}
 use Rattle.account.specs.Runs.{Splits, Returned, worked-out, Goes-on, Kept, In-sequence}
 use Rattle.account.proofs.Following.{ends-follow}
 use Rattle.account.proofs.Running.{account-append, run-sound, created-sound, every-run}
-use Rattle.account.proofs.Steps.{Sound, Good-end, good-governs}
+use Rattle.account.proofs.Steps.{Sound, good-governs}
 
 outcomes-append : (a : Account) (xs ys : List Call) → outcomes a (xs ++ ys) ≡ outcomes a xs ++ outcomes (account-after a xs) ys
 outcomes-append a [] ys = refl

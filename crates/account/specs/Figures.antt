@@ -3,10 +3,9 @@ use mathlib.Core.Path.{_≡_}
 use mathlib.Core.List.{List, [], _∷_, _++_, map}
 use Prim.Native.Nat.{ℕ, zero, suc}
 use lib.ListN.{replicate}
-use Rattle.std.specs.declared.option.Option.{Option}
 use Rattle.std.specs.declared.option.Option.the-variants.{Some, None}
 use Rattle.family.specs.Meaning.{Meaning}
-use Rattle.account.specs.Questions.{Refusal, first-refusal}
+use Rattle.account.specs.Questions.{first-refusal}
 use Rattle.account.specs.Calls.{Pads, At-door, Call, Seal, Open, Appoint, Strike, Withdraw, Wrote, Opened, Done, Refused}
 use Rattle.account.specs.Keys.{key-questions, door-questions}
 use Rattle.account.specs.Account.{outcomes, Creations, created}
@@ -23,6 +22,7 @@ key-of width reach =
       columns = λ m. replicate 61 0 ++ (3072 ∷ 1536 ∷ 768 ∷ replicate 7 0) ++ (3 ∷ []);
     }
 
+-- the key of both ends
 abbrev pub key : Meaning
 key = key-of 63 1016
 
@@ -46,6 +46,7 @@ second-frame payload high low = payload ∷ 0 ∷ 0 ∷ 0 ∷ 0 ∷ 0 ∷ 0 ∷ 
 abbrev pub refused : (number : ℕ) (buffer : List ℕ) → Returned
 refused number buffer = record { answer = Refused (record { number = number; slot = None }); buffer = buffer }
 
+-- keys that were changed
 abbrev pub done : Returned
 done = record { answer = Done; buffer = [] }
 
@@ -55,6 +56,7 @@ Works-out c calls returned = map worked-out (outcomes (created c) calls) ≡ ret
 
 -- ---- one changed bit allowed
 
+-- the calls
 abbrev pub calls : List Call
 calls =
     Seal 0 (1 ∷ []) (replicate 10 9) pads
@@ -85,6 +87,7 @@ calls =
     ∷ Withdraw At-door
     ∷ []
 
+-- and what is worked out for them
 abbrev pub returned : List Returned
 returned =
     refused 11 (replicate 10 9)

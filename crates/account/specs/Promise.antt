@@ -57,6 +57,7 @@ pub record Hands-over (a : Account) (s : Step) (slot : ℕ) (payload buffer : Li
   pub written : s .buffer ≡ payload ++ drop (length payload) buffer
   pub added : s .after .handed ≡ a .handed ++ record { slot = slot; payload = payload } ∷ []
 
+-- the answer is a refusal
 abbrev pub Is-refused : Answer → Type 0
 Is-refused answer = (r : Refusal) × (answer ≡ Refused r)
 

@@ -1,5 +1,6 @@
 //! Theorems on the account. Each stands on a function's contract, so that its proof is asked for.
 ghost use Rattle.account.specs.Questions.{First-no-decides};
+ghost use Rattle.account.specs.Account.{Refusals-change-nothing};
 ghost use Rattle.account.specs.Ends.{Ends-follow};
 ghost use Rattle.account.specs.Figures.{Figures-stand};
 ghost use Rattle.account.specs.Promise.{Every-run};
@@ -8,6 +9,13 @@ ghost use Rattle.account.specs.Runs.{In-sequence, Origins, Splits, Starts};
 // A refusal is that of the first question answered no.
 pub fn first_no_decides() -> u8
     ensures { λ _. ⌜ First-no-decides ⌝ }
+{
+    0
+}
+
+// A refused call changes nothing.
+pub fn refusals_change_nothing() -> u8
+    ensures { λ _. ⌜ Refusals-change-nothing ⌝ }
 {
     0
 }

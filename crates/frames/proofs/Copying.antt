@@ -3,14 +3,13 @@
 use mathlib.Core.Path.{_≡_, refl, sym, ap, ap₂, subst, _∙_}
 use mathlib.Core.Bool.{Bool, true, false}
 use mathlib.Core.List.{List, _++_, append-assoc}
-use mathlib.Core.Logic.{_≢_, _⊎_, inl, inr}
-use Prim.Native.Nat.{ℕ, _+_, _-_, _*_, _/_, _%_, _^_, _≤_, _<_}
+use mathlib.Core.Logic.{_≢_, inl, inr}
+use Prim.Native.Nat.{ℕ, _+_, _-_, _*_, _/_, _^_, _≤_, _<_}
 use native.Mathlib.Omega.{arith}
 use native.Mathlib.Nat.{mod-eq-of-lt}
 use lib.Bits.{bitXor, xor-zero-r, xor-self, xor-comm, xor-assoc, xor-lt}
 use lib.ListN.{length, getD, length-append}
 use Rattle.std.specs.shelf.Lists.{All}
-use Rattle.std.specs.declared.option.Option.{Option}
 use Rattle.std.specs.declared.option.Option.the-variants.{Some, None}
 use Rattle.std.proofs.shelf.Lists.{getD-append-left, getD-append-right}
 use Rattle.std.proofs.shelf.Elements.{all-take}
@@ -27,8 +26,8 @@ use Rattle.bits.proofs.UnitColumns.{length-units}
 use Rattle.bits.proofs.Weights.{weight-append, weight-toggle, none-at, one-here, no-other, one-place}
 use Rattle.bits.proofs.Xors.{same-from-xor}
 use Rattle.frames.specs.Frames.{bound-word, text-of, tag-size, frame-of, payload-size, payload-of, tag-bits, places, syndrome}
-use Rattle.frames.specs.Findings.{Finding, Clean, Column, Unit-column, Nowhere, finding, mended, told-place}
-use Rattle.frames.specs.Changed.{Distant, changed-places, Names, Restores, Shows, Frames-show}
+use Rattle.frames.specs.Findings.{Finding, Clean, Column, Unit-column, Nowhere, finding}
+use Rattle.frames.specs.Changed.{Distant, changed-places, Names, Restores, Frames-show}
 use Rattle.frames.proofs.Found.{Found, found}
 use Rattle.frames.proofs.Parts.{length-bound-word, length-payload, length-places, length-frame, frame-payload, frame-tag}
 
