@@ -5,4 +5,9 @@ pub mod Runs
 pub mod Picks
 pub mod UnitColumns
 pub mod Shifts
+pub mod Linear
 pub mod Weights
+pub mod OnesOfBits
+pub mod Changes
+pub mod Bytes
+pub mod Locating

@@ -1,84 +1,67 @@
--- How many of the bits are ones: of a run of bits, of a number and of the first bits of bytes.
-use mathlib.Core.Path.{_≡_, refl, sym, ap, ap₂, subst, _∙_}
-use mathlib.Core.Bool.{Bool, cond}
+-- How many ones a run of bits has, and where a single one stands.
+use mathlib.Core.Path.{_≡_, refl, sym, ap, _∙_}
+use mathlib.Core.Bool.{Bool, true, false, not, cond}
 use mathlib.Core.List.{List, [], _∷_, _++_}
-use Prim.Native.Nat.{ℕ, zero, suc, _+_, _-_, _*_, _/_, _%_, _^_, _≤_, _<_}
+use Prim.Native.Nat.{ℕ, zero, suc, _+_, _*_, _%_, _^_, _≤_, _<_}
 use native.Mathlib.Omega.{arith}
-use native.Mathlib.Nat.{mod-eq-of-lt, mod-lt, zero-add, suc-add}
-use native.Mathlib.Numerals.{one-add}
-use lib.Count.{ones, ones-cat}
+use native.Mathlib.Nat.{zero-add, add-zero, zero-div, le-of-suc-le-suc}
 use lib.Dec.{eqb}
-use lib.ListN.{length, getD, take}
-use Rattle.std.proofs.shelf.Bits.{pow-pos, mod-pow-add, shr-shr, shr-below}
-use Rattle.std.proofs.shelf.Lists.{take-append-le}
-use Rattle.bits.specs.Bits.{bits, bits-of, weight}
-use Rattle.bits.proofs.Runs.{length-bits-of, bits-append}
-use Rattle.bits.proofs.Xors.{ones-zero, ones-digit}
+use lib.ListN.{length, getD}
+use Rattle.std.proofs.shelf.Bits.{pow-pos}
+use Rattle.std.proofs.shelf.Tests.{true≢false}
+use Rattle.bits.specs.Bits.{bits-of, weight, toggle}
+use Rattle.bits.proofs.Runs.{bits-of-low}
 
 pub weight-append : (xs ys : List Bool) → weight (xs ++ ys) ≡ weight xs + weight ys
-weight-append [] ys = omega arith
-weight-append (x ∷ xs) ys = omega (arith, weight-append xs ys)
+weight-append [] ys = sym (zero-add (weight ys))
+weight-append (x ∷ xs) ys = let h = weight-append xs ys in omega arith
 
-digit-weight : (d : ℕ) → d < 2 → cond (eqb d 1) 1 0 ≡ d
-digit-weight zero h = refl
-digit-weight (suc zero) h = refl
-digit-weight (suc (suc d)) h = absurd (omega arith)
+one-apart : (x : Bool) → (cond (not x) 1 0 ≤ cond x 1 0 + 1) × (cond x 1 0 ≤ cond (not x) 1 0 + 1)
+one-apart true = (omega arith, omega arith)
+one-apart false = (omega arith, omega arith)
 
-pub weight-bits-of : (n x : ℕ) → weight (bits-of n x) ≡ ones (x % 2 ^ n)
+-- turning a bit over changes the weight by one at most
+pub weight-toggle : (xs : List Bool) (i : ℕ) → (weight (toggle xs i) ≤ weight xs + 1) × (weight xs ≤ weight (toggle xs i) + 1)
+weight-toggle [] i = (omega arith, omega arith)
+weight-toggle (x ∷ xs) zero = let h = one-apart x in (omega arith, omega arith)
+weight-toggle (x ∷ xs) (suc i) = let h = weight-toggle xs i in (omega arith, omega arith)
+
+pub none-at : (xs : List Bool) (i : ℕ) → weight xs ≡ 0 → getD xs i false ≡ false
+none-at [] i e = refl
+none-at (true ∷ xs) i e = absurd (omega arith)
+none-at (false ∷ xs) zero e = refl
+none-at (false ∷ xs) (suc i) e = none-at xs i (omega arith)
+
+-- where turning over place i leaves no ones, there is a one at i, and no other
+pub one-here : (xs : List Bool) (i : ℕ) → i < length xs → weight (toggle xs i) ≡ 0 → getD xs i false ≡ true
+one-here [] i h e = absurd (omega arith)
+one-here (true ∷ xs) zero h e = refl
+one-here (false ∷ xs) zero h e = absurd (omega arith)
+one-here (true ∷ xs) (suc i) h e = absurd (omega arith)
+one-here (false ∷ xs) (suc i) h e = one-here xs i (le-of-suc-le-suc h) (omega arith)
+
+pub no-other : (xs : List Bool) (i j : ℕ) → weight (toggle xs i) ≡ 0 → getD xs j false ≡ true → j ≡ i
+no-other [] i j e h = absurd (true≢false (sym h))
+no-other (true ∷ xs) zero zero e h = refl
+no-other (false ∷ xs) zero zero e h = refl
+no-other (x ∷ xs) zero (suc j) e h = absurd (true≢false (sym h ∙ none-at xs j (omega arith)))
+no-other (true ∷ xs) (suc i) j e h = absurd (omega arith)
+no-other (false ∷ xs) (suc i) zero e h = absurd (true≢false (sym h))
+no-other (false ∷ xs) (suc i) (suc j) e h = ap suc (no-other xs i j (omega arith) h)
+
+-- a single one has a place
+pub one-place : (xs : List Bool) → weight xs ≡ 1 → (i : ℕ) × (i < length xs) × (weight (toggle xs i) ≡ 0)
+one-place [] e = absurd (omega arith)
+one-place (true ∷ xs) e = (0, omega arith, omega arith)
+one-place (false ∷ xs) e = let (i, h, k) = one-place xs (omega arith) in (suc i, omega arith, omega arith)
+
+-- zero has no ones, nor have the places that a shift leaves
+pub weight-zero : (n : ℕ) → weight (bits-of n 0) ≡ 0
 unfolding bits-of
-weight-bits-of zero x = sym (ap ones (omega arith) ∙ ones-zero)
-weight-bits-of (suc k) x =
-    let d : ℕ = x / 2 ^ k % 2 in
-    let low : x / 2 ^ k % 2 ^ 1 ≡ d = omega arith in
-    ap₂ (λ a b. a + b) (digit-weight d (omega arith) ∙ sym (ones-digit d (omega arith))) (weight-bits-of k x)
-    ∙ sym (ones-cat k d (x % 2 ^ k) (mod-lt x (pow-pos k)))
-    ∙ ap (λ a. ones (a * 2 ^ k + x % 2 ^ k)) (sym low)
-    ∙ ap ones (sym (mod-pow-add x 1 k)) ∙ ap (λ n. ones (x % 2 ^ n)) (one-add k)
+weight-zero zero = refl
+weight-zero (suc k) =
+    ap (λ (q : ℕ). cond (eqb (q % 2) 1) 1 0 + weight (bits-of k 0)) (zero-div (2 ^ k)) ∙ omega (arith, weight-zero k)
 
--- the first bits of a number are those of the number shifted down
-pub take-bits-of : (j k x : ℕ) → take j (bits-of (j + k) x) ≡ bits-of j (x / 2 ^ k)
-unfolding bits-of
-take-bits-of zero k x = refl
-take-bits-of (suc j) k x =
-    let e : suc j + k ≡ suc (j + k) = omega arith in
-    let sum : k + j ≡ j + k = omega arith in
-    ap (λ n. take (suc j) (bits-of n x)) e
-    ∙ ap₂ (λ (a : ℕ) (r : List Bool). eqb (a % 2) 1 ∷ r) (sym (shr-shr x k j ∙ ap (λ n. x / 2 ^ n) sum)) (take-bits-of j k x)
-
--- the ones of the first r bits of a byte
-pub front-byte : (b r : ℕ) → b < 2 ^ 8 → r ≤ 8 → weight (take r (bits-of 8 b)) ≡ ones (b / 2 ^ (8 - r))
-front-byte b r h l =
-    let k : ℕ = 8 - r in
-    let sum : 8 ≡ r + k = omega arith in
-    let small : b / 2 ^ k < 2 ^ r = shr-below b r k (subst (λ n. b < 2 ^ n) sum h) in
-    ap (λ n. weight (take r (bits-of n b))) sum ∙ ap weight (take-bits-of r k b) ∙ weight-bits-of r (b / 2 ^ k)
-    ∙ ap ones (mod-eq-of-lt small)
-
--- taking all of the first and some of the second
-take-past : (xs ys : List Bool) (n : ℕ) → take (length xs + n) (xs ++ ys) ≡ xs ++ take n ys
-take-past [] ys n = ap (λ k. take k ys) (zero-add n)
-take-past (x ∷ xs) ys n = ap (λ k. take k (x ∷ (xs ++ ys))) (suc-add (length xs) n) ∙ ap (λ (r : List Bool). x ∷ r) (take-past xs ys n)
-
--- the ones of the first 8 q + r bits of bytes: those of q whole bytes, and of r bits of the next
-pub front-weight : (text : List ℕ) (q r : ℕ) → r < 8 → 8 * q + r ≤ 8 * length text
-    → weight (take (8 * q + r) (bits text)) ≡ weight (bits (take q text)) + weight (take r (bits-of 8 (getD text q 0)))
-front-weight [] zero zero h l = omega arith
-front-weight [] zero (suc r) h l = absurd (omega arith)
-front-weight [] (suc q) r h l = absurd (omega arith)
-front-weight (b ∷ bs) zero r h l =
-    let e : 8 * 0 + r ≡ r = omega arith in
-    ap (λ n. weight (take n (bits (b ∷ bs)))) e
-    ∙ ap weight (take-append-le r (bits-of 8 b) (bits bs) (omega (arith, length-bits-of 8 b)))
-    ∙ sym (zero-add (weight (take r (bits-of 8 b))))
-front-weight (b ∷ bs) (suc q) r h l =
-    let e : 8 * suc q + r ≡ length (bits-of 8 b) + (8 * q + r) = omega (arith, length-bits-of 8 b) in
-    ap (λ n. weight (take n (bits (b ∷ bs)))) e
-    ∙ ap weight (take-past (bits-of 8 b) (bits bs) (8 * q + r))
-    ∙ weight-append (bits-of 8 b) (take (8 * q + r) (bits bs))
-    ∙ omega (arith, front-weight bs q r h (omega arith), weight-append (bits-of 8 b) (bits (take q bs)))
-
--- one byte more
-pub weight-push : (bs : List ℕ) (b : ℕ) → b < 2 ^ 8 → weight (bits (bs ++ b ∷ [])) ≡ weight (bits bs) + ones b
-weight-push bs b h =
-    ap weight (bits-append bs (b ∷ [])) ∙ weight-append (bits bs) (bits (b ∷ []))
-    ∙ ap (λ n. weight (bits bs) + n) (weight-append (bits-of 8 b) [] ∙ ap₂ (λ x y. x + y) (weight-bits-of 8 b ∙ ap ones (mod-eq-of-lt h)) refl ∙ omega arith)
+pub weight-shifted : (n x : ℕ) → weight (bits-of n (x * 2 ^ n)) ≡ 0
+weight-shifted n x =
+    ap (λ (y : ℕ). weight (bits-of n y)) (sym (add-zero (x * 2 ^ n))) ∙ ap weight (bits-of-low n x 0 (pow-pos n)) ∙ weight-zero n

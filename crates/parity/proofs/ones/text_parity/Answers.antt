@@ -8,7 +8,7 @@ use lib.Count.{ones}
 use lib.ListN.{getD, take}
 use Rattle.std.proofs.shelf.Lists.{take-more, take-all}
 use Rattle.bits.specs.Bits.{bits, bits-of, weight}
-use Rattle.bits.proofs.Weights.{front-byte, front-weight, weight-push}
+use Rattle.bits.proofs.OnesOfBits.{front-byte, front-weight, weight-push}
 use Rattle.bits.proofs.Xors.{ones-xor, ones-zero}
 use Rattle.parity.proofs.ones.text_parity.Needs as need
 use Rattle.parity.proofs.ones.text_parity.Needs.{then-m-gt0, else-m-gt0}
