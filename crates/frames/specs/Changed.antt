@@ -4,11 +4,11 @@ use mathlib.Core.Bool.{Bool, true, false}
 use mathlib.Core.List.{List, _++_}
 use mathlib.Core.Logic.{_≢_}
 use Prim.Native.Nat.{ℕ, _+_, _^_, _≤_, _<_}
-use lib.ListN.{length, getD}
+use lib.ListN.{length, getD, take}
 use Rattle.std.specs.shelf.Lists.{All}
 use Rattle.std.specs.declared.option.Option.{Option}
 use Rattle.std.specs.declared.option.Option.the-variants.{Some}
-use Rattle.bits.specs.Bits.{Bytes, weight}
+use Rattle.bits.specs.Bits.{Bytes, bits-of, weight}
 use Rattle.bits.specs.Changes.{changes}
 use Rattle.bits.specs.Columns.{picked, units}
 use Rattle.frames.specs.Frames.{text-size, tag-size, pad-of, frame-of, payload-of, places, syndrome}
@@ -56,3 +56,7 @@ Frames-show =
 -- a word of 64 bits gives its pad
 abbrev pub Pads-are-pads : Type 0
 Pads-are-pads = (n word : ℕ) → n ≤ 64 → word < 2 ^ 64 → pad-of n word ≡ word-pad n word
+
+-- and its bits are the first n of the word
+abbrev pub Pads-are-first-bits : Type 0
+Pads-are-first-bits = (n word : ℕ) → n ≤ 64 → bits-of n (word-pad n word) ≡ take n (bits-of 64 word)
