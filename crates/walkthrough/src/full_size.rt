@@ -1,7 +1,4 @@
 //! The same job at full size: a text of 1,016 bits under a key of width 64.
-use crate::mending::Arrival;
-use crate::mending::receive;
-use crate::printing::FindingDisplay;
 use bits::flip_bit;
 use family::AdmissionRefusalError;
 use family::Family;
@@ -10,6 +7,9 @@ use family::OutOfReachError;
 use family::RawKey;
 use lfsr::MacCFamily;
 use lfsr::MacCKey;
+use mending::Arrival;
+use mending::FindingDisplay;
+use mending::receive;
 use pads::CipherPads;
 use pads::CipherSource;
 use pads::PadFaultError;

@@ -1,6 +1,5 @@
 //! A demonstration: a MAC-C key at work, from raw key to mended bit. Each action is printed as it is done.
 mod full_size;
-mod mending;
 mod printing;
 mod refused;
 mod small;

@@ -1,5 +1,4 @@
-//! How bits and findings are printed.
-use crate::mending::Finding;
+//! How bits are printed.
 use bits::read_bit;
 use std::fmt;
 
@@ -20,16 +19,5 @@ pub impl fmt::Display for BitRun<'_> as BitRunDisplay {
             }
         }
         Ok(())
-    }
-}
-
-pub impl fmt::Display for Finding as FindingDisplay {
-    fn fmt<W: fmt::Write>(&self, f: &mut fmt::Formatter<W>) -> fmt::Result {
-        match self {
-            Finding::Clean => f.write_str("no change"),
-            Finding::Text(place) => write!(f, "text place {place}"),
-            Finding::Tag(place) => write!(f, "tag place {place}"),
-            Finding::Unknown => f.write_str("no single place"),
-        }
     }
 }

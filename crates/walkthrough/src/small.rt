@@ -1,8 +1,6 @@
 //! The small key, whose every number can be checked by hand.
-use crate::mending::receive;
 use crate::printing::BitRun;
 use crate::printing::BitRunDisplay;
-use crate::printing::FindingDisplay;
 use bits::flip_bit;
 use family::AdmissionRefusalError;
 use family::Family;
@@ -11,6 +9,8 @@ use family::OutOfReachError;
 use family::RawKey;
 use lfsr::MacCFamily;
 use lfsr::MacCKey;
+use mending::FindingDisplay;
+use mending::receive;
 use pads::BookPads;
 use pads::PadBook;
 use pads::PadFaultDisplay;

@@ -1,6 +1,4 @@
 //! Keys of distance 4: one changed bit is put right, and two are refused.
-use crate::mending::Finding;
-use crate::mending::receive;
 use bits::flip_bit;
 use crc::CrcFamily;
 use crc::CrcKey;
@@ -11,6 +9,8 @@ use family::OutOfReachError;
 use family::RawKey;
 use lfsr::MacCFamily;
 use lfsr::MacCKey;
+use mending::Finding;
+use mending::receive;
 use parity::Parity;
 use parity::ParityFamily;
 use std::error::AnyError;

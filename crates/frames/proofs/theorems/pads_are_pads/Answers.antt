@@ -13,6 +13,6 @@ returns c =
     record {
       pads = pads-are-pads;
       bits = λ n word h.
-        let sum : n + (64 - n) ≡ 64 = omega arith in
-        sym (take-bits-of n (64 - n) word) ∙ ap (λ (k : ℕ). take n (bits-of k word)) sum;
+          let sum : n + (64 - n) ≡ 64 = omega arith in
+          sym (take-bits-of n (64 - n) word) ∙ ap (λ (k : ℕ). take n (bits-of k word)) sum;
     }

@@ -3,12 +3,13 @@ ghost use Rattle.bits.specs.Columns.{place, units as unit-columns};
 ghost use Rattle.family.specs.Admission.{length-questions, reach-number, text-questions};
 ghost use Rattle.family.specs.Meaning.{digest-of};
 ghost use Rattle.family.specs.Questions.{Asked};
-ghost use Rattle.walkthrough.specs.Mending.{Received, finding as finding-of, mended, syndrome as syndrome-of};
+ghost use Rattle.mending.specs.Mending.{Received, finding as finding-of, mended, syndrome as syndrome-of};
 ghost use mathlib.Core.Path.{_≡_};
 use bits::flip_bit;
 use bits::unit_place;
 use family::Family;
 use family::OutOfReach;
+use std::fmt;
 
 // What a syndrome is: zero, the column of a text place, the unit column of a tag place, or none of these.
 #[derive(Clone, Copy)]
@@ -17,6 +18,17 @@ pub enum Finding {
     Text(usize),
     Tag(u32),
     Unknown,
+}
+
+pub impl fmt::Display for Finding as FindingDisplay {
+    fn fmt<W: fmt::Write>(&self, f: &mut fmt::Formatter<W>) -> fmt::Result {
+        match self {
+            Finding::Clean => f.write_str("no change"),
+            Finding::Text(place) => write!(f, "text place {place}"),
+            Finding::Tag(place) => write!(f, "tag place {place}"),
+            Finding::Unknown => f.write_str("no single place"),
+        }
+    }
 }
 
 // The received tag ⊕ the pad ⊕ the digest of the received text.

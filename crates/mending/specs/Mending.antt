@@ -10,9 +10,9 @@ use Rattle.std.specs.declared.option.Option.the-variants.{Some, None}
 use Rattle.bits.specs.Bits.{flip}
 use Rattle.bits.specs.Columns.{place, units}
 use Rattle.family.specs.Meaning.{Meaning, digest-of}
-use Rattle.walkthrough.specs.declared.mending.Arrival.{Arrival}
-use Rattle.walkthrough.specs.declared.mending.Finding.{Finding}
-use Rattle.walkthrough.specs.declared.mending.Finding.the-variants.{Clean, Text, Tag, Unknown}
+use Rattle.mending.specs.declared.Arrival.{Arrival}
+use Rattle.mending.specs.declared.Finding.{Finding}
+use Rattle.mending.specs.declared.Finding.the-variants.{Clean, Text, Tag, Unknown}
 
 -- the received tag ⊕ the pad ⊕ the digest of the received text
 abbrev pub syndrome : Meaning → (m : ℕ) (text : List ℕ) (tag pad : ℕ) → ℕ

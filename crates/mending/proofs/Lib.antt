@@ -1,0 +1,1 @@
+-- Mending needs no lemmas of its own.

@@ -1,1 +1,0 @@
--- The program needs no lemmas of its own.
