@@ -1,4 +1,4 @@
--- The small run is worked out by computation.
+-- The small runs are worked out by computation.
 use mathlib.Core.Path.{refl}
 use Rattle.bits.specs.Bits.{bits-of}
 use Rattle.frames.specs.Frames.{bound-word, tag-size}
@@ -9,4 +9,5 @@ use Rattle.account.specs.Figures.{Figures-stand}
 
 pub figures-stand : Figures-stand
 unfolding bits-of bound-word tag-size governing frame-under finding-under payload-under place-under
-figures-stand = refl
+figures-stand =
+    record { one-allowed = refl; in-the-tag = refl; none-allowed = refl; reader-created = refl; door-created = refl; door-refused = refl }

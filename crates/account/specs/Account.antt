@@ -1,5 +1,6 @@
 -- The account of a run. It is fed the two creations and then the arguments of each call, and works out what each call answers. It
 -- never sees what an end holds, nor what one answers.
+use mathlib.Core.Path.{_≡_}
 use mathlib.Core.List.{List, [], _∷_, _++_, map}
 use Prim.Native.Nat.{ℕ}
 use lib.ListN.{length, drop}
@@ -39,6 +40,7 @@ pub record HandedOver : Type 0 where
   pub slot : ℕ
   pub payload : List ℕ
 
+-- all that is kept
 pub record Account : Type 0 where
   pub reader : EndKeys
   pub door : EndKeys
@@ -50,21 +52,24 @@ pub record Account : Type 0 where
   -- the keys of the two creations and of the appointments that were accepted
   pub used : List Meaning
 
--- an end's keys, and its last slot: the last in its list, or 0
+-- an end's keys
 abbrev pub keys-at : Account → Side → EndKeys
 keys-at a At-reader = a .reader
 keys-at a At-door = a .door
 
+-- the last of a list that follows `first`
 abbrev pub last-of : (first : ℕ) → List ℕ → ℕ
 last-of s [] = s
 last-of s (x ∷ xs) = last-of x xs
 
+-- the slots of both lists
 abbrev pub sealed-slots : Account → List ℕ
 sealed-slots a = map (λ (e : SealedFrame). e .slot) (a .sealed)
 
 abbrev pub handed-slots : Account → List ℕ
 handed-slots a = map (λ (e : HandedOver). e .slot) (a .handed)
 
+-- an end's last slot: the last in its list, or 0
 abbrev pub last-slot : Account → Side → ℕ
 last-slot a At-reader = last-of 0 (sealed-slots a)
 last-slot a At-door = last-of 0 (handed-slots a)
@@ -76,6 +81,7 @@ pub record Step : Type 0 where
   pub buffer : List ℕ
   pub after : Account
 
+-- the entry that a seal adds, with the key, the pad and the door number that it finds
 abbrev pub sealed-entry : Account → (slot : ℕ) (payload : List ℕ) (word : ℕ) → SealedFrame
 sealed-entry a slot payload w =
     let key = governs (a .reader) slot in
@@ -88,31 +94,38 @@ sealed-entry a slot payload w =
       number = a .reader .number;
     }
 
+-- the account with that entry behind the others
 abbrev pub add-sealed : Account → SealedFrame → Account
 add-sealed a e =
     record { reader = a .reader; door = a .door; allowance = a .allowance; sealed = a .sealed ++ e ∷ []; handed = a .handed; used = a .used }
 
+-- a seal, refused or accepted: the frame goes to the front of the buffer
 abbrev pub seals : Option Refusal → Account → SealedFrame → (buffer : List ℕ) → Step
 seals (Some r) a e buffer = record { answer = Refused r; buffer = buffer; after = a }
 seals None a e buffer =
     record { answer = Wrote (length (e .frame)); buffer = e .frame ++ drop (length (e .frame)) buffer; after = add-sealed a e }
 
+-- the entry that an open adds
 abbrev pub handed-entry : Account → (slot : ℕ) (frame : List ℕ) (word : ℕ) → HandedOver
 handed-entry a slot frame w = record { slot = slot; payload = payload-under (governs (a .door) slot) w (a .door .number) slot frame }
 
+-- the account with that entry behind the others
 abbrev pub add-handed : Account → HandedOver → Account
 add-handed a e =
     record { reader = a .reader; door = a .door; allowance = a .allowance; sealed = a .sealed; handed = a .handed ++ e ∷ []; used = a .used }
 
+-- an open, refused or accepted: the payload goes to the front of the buffer
 abbrev pub opens : Option Refusal → Account → HandedOver → (place : Option ℕ) (buffer : List ℕ) → Step
 opens (Some r) a e place buffer = record { answer = Refused r; buffer = buffer; after = a }
 opens None a e place buffer =
     record { answer = Opened (length (e .payload)) place; buffer = e .payload ++ drop (length (e .payload)) buffer; after = add-handed a e }
 
+-- the account with other keys at one end
 abbrev pub with-end : Account → Side → EndKeys → (used : List Meaning) → Account
 with-end a At-reader e used = record { reader = e; door = a .door; allowance = a .allowance; sealed = a .sealed; handed = a .handed; used = used }
 with-end a At-door e used = record { reader = a .reader; door = e; allowance = a .allowance; sealed = a .sealed; handed = a .handed; used = used }
 
+-- a change of keys, refused or accepted
 abbrev pub rekeys : Option Refusal → Account → Side → EndKeys → (used : List Meaning) → Step
 rekeys (Some r) a side e used = record { answer = Refused r; buffer = []; after = a }
 rekeys None a side e used = record { answer = Done; buffer = []; after = with-end a side e used }
@@ -191,3 +204,17 @@ created c =
       handed = [];
       used = c .reader-key ∷ c .door-key ∷ [];
     }
+
+-- what a call's output buffer holds before it; a change of keys has none
+abbrev pub buffer-before : Call → List ℕ
+buffer-before (Seal slot payload buffer pads) = buffer
+buffer-before (Open slot frame buffer pads) = buffer
+buffer-before (Appoint side key start) = []
+buffer-before (Strike side) = []
+buffer-before (Withdraw side) = []
+
+-- A refused call leaves its buffer and the account.
+abbrev pub Refusals-change-nothing : Type 0
+Refusals-change-nothing =
+    (a : Account) (c : Call) (r : Refusal) → outcome a c .answer ≡ Refused r
+    → (outcome a c .buffer ≡ buffer-before c) × (outcome a c .after ≡ a)

@@ -19,7 +19,7 @@ word None = 0
 pub data Side : Type 0 where
   At-reader At-door : Side
 
--- `buffer` is what the output buffer holds before the call.
+-- a call with its arguments; `buffer` is what its output buffer holds before it
 pub data Call : Type 0 where
   Seal : (slot : ℕ) (payload buffer : List ℕ) (pads : Pads) → Call
   Open : (slot : ℕ) (frame buffer : List ℕ) (pads : Pads) → Call
@@ -27,6 +27,7 @@ pub data Call : Type 0 where
   Strike : (side : Side) → Call
   Withdraw : (side : Side) → Call
 
+-- what a call answers
 pub data Answer : Type 0 where
   -- a frame of so many bytes was written
   Wrote : (size : ℕ) → Answer

@@ -14,6 +14,7 @@ use Rattle.account.specs.Sealing.{seal-questions, frame-under}
 use Rattle.account.specs.Opening.{finding-under, payload-under, place-under, open-questions}
 use Rattle.account.specs.Account.{Account, last-slot, outcome, Creations}
 
+-- what an end holds
 pub record EndState : Type 0 where
   pub current : Meaning
   pub next : Option Pending
@@ -42,16 +43,19 @@ new-end key number allowance = record { current = key; next = None; number = num
 abbrev pub at-slot : EndState → (slot : ℕ) → EndState
 at-slot h slot = record { current = h .current; next = h .next; number = h .number; last = slot; allowance = h .allowance }
 
+-- its keys were changed
 abbrev pub with-keys : EndState → (current : Meaning) (next : Option Pending) → EndState
 with-keys h current next = record { current = current; next = next; number = h .number; last = h .last; allowance = h .allowance }
 
--- a key was appointed, the current key was struck, the next key was withdrawn
+-- a key was appointed
 abbrev pub appointed : EndState → Meaning → (start : ℕ) → EndState
 appointed h key start = with-keys h (h .current) (Some (record { key = key; start = start }))
 
+-- the current key was struck, and the next one is current
 abbrev pub struck : EndState → EndState
 struck h = with-keys h (next-key (h .next) (h .current)) None
 
+-- the next key was withdrawn
 abbrev pub withdrawn : EndState → EndState
 withdrawn h = with-keys h (h .current) None
 
@@ -72,6 +76,7 @@ abbrev pub changes-keys : Option Refusal → (before after : EndState) → EndRe
 changes-keys (Some r) h h′ = record { answer = Refused r; buffer = []; after = h }
 changes-keys None h h′ = record { answer = Done; buffer = []; after = h′ }
 
+-- one for each call
 abbrev pub seal-reply : EndState → (slot : ℕ) (payload buffer : List ℕ) (pads : Pads) → EndReply
 seal-reply h slot payload buffer pads =
     let frame = frame-under (governed h slot) (word (pads slot)) (h .number) slot payload in
@@ -106,7 +111,7 @@ strike-reply h = changes-keys (first-refusal (strike-questions (h .next) (h .las
 abbrev pub withdraw-reply : EndState → EndReply
 withdraw-reply h = changes-keys (first-refusal (withdraw-questions (h .next) (h .last))) h (withdrawn h)
 
--- ---- the two ends, and a call at the one that it is for
+-- ---- the two ends, and their reply to a call: that of the end which the call is for
 
 pub record Ends : Type 0 where
   pub reader : EndState

@@ -20,11 +20,12 @@ unfoldable pub governing : (current : Meaning) (next : Option Pending) (slot : �
 governing current None slot = current
 governing current (Some p) slot = cond (ltb slot (p .start)) current (p .key)
 
--- the start of a change, and the key that a strike makes current
+-- the start of a change
 abbrev pub start-of : Option Pending → ℕ
 start-of (Some p) = p .start
 start-of None = 0
 
+-- the key that a strike makes current
 abbrev pub next-key : Option Pending → (current : Meaning) → Meaning
 next-key (Some p) current = p .key
 next-key None current = current

@@ -57,6 +57,7 @@ pub record Hands-over (a : Account) (s : Step) (slot : ℕ) (payload buffer : Li
   pub written : s .buffer ≡ payload ++ drop (length payload) buffer
   pub added : s .after .handed ≡ a .handed ++ record { slot = slot; payload = payload } ∷ []
 
+-- the answer is a refusal
 abbrev pub Is-refused : Answer → Type 0
 Is-refused answer = (r : Refusal) × (answer ≡ Refused r)
 
@@ -67,9 +68,9 @@ pub data Some-left-out {X : Type 0} : List X → List X → Type 0 where
   left : {x : X} {xs ys : List X} → Some-left-out xs ys → Some-left-out xs (x ∷ ys)
 
 -- each number is above the one before it, so that none comes twice
-abbrev pub Rising : (above : ℕ) → List ℕ → Type 0
-Rising s [] = Unit {0}
-Rising s (x ∷ xs) = (s < x) × Rising x xs
+abbrev pub Strictly-rising : (above : ℕ) → List ℕ → Type 0
+Strictly-rising s [] = Unit {0}
+Strictly-rising s (x ∷ xs) = (s < x) × Strictly-rising x xs
 
 -- what was sealed, as it would be handed over
 abbrev pub sealed-payloads : Account → List HandedOver
@@ -111,7 +112,7 @@ Only-copies start calls most =
 pub record Promise (c : Creations) (calls : List Call) (d : ℕ) : Type 0 where
   pub opens : Opens-copies (created c) calls
   pub refuses : Refuses-copies (created c) calls d
-  pub once : Rising 0 (handed-slots (account-after (created c) calls))
+  pub once : Strictly-rising 0 (handed-slots (account-after (created c) calls))
   pub in-order :
       Only-copies (created c) calls (c .allowance + d)
       → let end = account-after (created c) calls in Some-left-out (end .handed) (sealed-payloads end)

@@ -8,7 +8,7 @@ use Rattle.std.specs.declared.option.Option.the-variants.{Some}
 use Rattle.family.specs.Meaning.{Meaning}
 use Rattle.account.specs.Calls.{Pads, Call, Seal, Answer, Wrote}
 use Rattle.account.specs.Account.{SealedFrame, Account, Step, sealed-entry, outcome, outcomes, account-after, Creations, created}
-use Rattle.account.specs.Ends.{Ends, Replied, Reaches, new-ends, ends-of, reply}
+use Rattle.account.specs.Ends.{Ends, Reaches, new-ends, ends-of, reply}
 use Rattle.account.specs.Promise.{Accepted, Proper, Promise}
 
 -- ---- inside a run
@@ -48,6 +48,7 @@ pub record Returned : Type 0 where
   pub answer : Answer
   pub buffer : List ℕ
 
+-- that, as the account works it out
 abbrev pub worked-out : Step → Returned
 worked-out s = record { answer = s .answer; buffer = s .buffer }
 

@@ -6,7 +6,7 @@ use Prim.Native.Nat.{ℕ, zero, suc, _+_, _-_, _*_, _/_, _%_, _^_, _<_}
 use native.Mathlib.Omega.{arith}
 use native.Mathlib.Nat.{mod-eq-of-lt}
 use lib.Bits.{bitXor, xor-lt}
-use lib.ListN.{length, getD, set, take, drop, length-set}
+use lib.ListN.{length, getD, take, drop, length-set}
 use lib.Seq.{take-at, drop-at}
 use Rattle.std.proofs.shelf.Bits.{pow-below, shr-high}
 use Rattle.std.proofs.shelf.Elements.{all-set, all-getD}

@@ -3,14 +3,13 @@
 use mathlib.Core.Path.{_≡_, refl, sym, ap, ap₂, subst, _∙_}
 use mathlib.Core.Bool.{Bool, true, false}
 use mathlib.Core.List.{List, _++_, append-assoc}
-use mathlib.Core.Logic.{_≢_, _⊎_, inl, inr}
-use Prim.Native.Nat.{ℕ, _+_, _-_, _*_, _/_, _%_, _^_, _≤_, _<_}
+use mathlib.Core.Logic.{_≢_, inl, inr}
+use Prim.Native.Nat.{ℕ, _+_, _-_, _*_, _/_, _^_, _≤_, _<_}
 use native.Mathlib.Omega.{arith}
 use native.Mathlib.Nat.{mod-eq-of-lt}
 use lib.Bits.{bitXor, xor-zero-r, xor-self, xor-comm, xor-assoc, xor-lt}
 use lib.ListN.{length, getD, length-append}
 use Rattle.std.specs.shelf.Lists.{All}
-use Rattle.std.specs.declared.option.Option.{Option}
 use Rattle.std.specs.declared.option.Option.the-variants.{Some, None}
 use Rattle.std.proofs.shelf.Lists.{getD-append-left, getD-append-right}
 use Rattle.std.proofs.shelf.Elements.{all-take}
@@ -27,8 +26,8 @@ use Rattle.bits.proofs.UnitColumns.{length-units}
 use Rattle.bits.proofs.Weights.{weight-append, weight-toggle, none-at, one-here, no-other, one-place}
 use Rattle.bits.proofs.Xors.{same-from-xor}
 use Rattle.frames.specs.Frames.{bound-word, text-of, tag-size, frame-of, payload-size, payload-of, tag-bits, places, syndrome}
-use Rattle.frames.specs.Findings.{Finding, Clean, Column, Unit-column, Nowhere, finding, mended, told-place}
-use Rattle.frames.specs.Changed.{Distant, changed-places, Names, Restores, Shows, Frames-show}
+use Rattle.frames.specs.Findings.{Finding, Clean, Column, Unit-column, Nowhere, finding}
+use Rattle.frames.specs.Changed.{Distant, changed-places, Names, Restores, Frames-show}
 use Rattle.frames.proofs.Found.{Found, found}
 use Rattle.frames.proofs.Parts.{length-bound-word, length-payload, length-places, length-frame, frame-payload, frame-tag}
 
@@ -40,33 +39,33 @@ rotate t p d = xor-comm (bitXor t p) d ∙ sym (xor-assoc d t p)
 abbrev whole : (n door slot : ℕ) (frame : List ℕ) → List Bool
 whole n door slot frame = bound-word door slot ++ places n frame
 
-syndrome-of-whole : (n hidden door slot L : ℕ) (cs frame : List ℕ) → length frame ≡ L + tag-size n → length cs ≡ 64 + 8 * L
-    → syndrome n cs hidden door slot frame ≡ bitXor (picked (whole n door slot frame) (cs ++ units n)) hidden
-syndrome-of-whole n hidden door slot L cs frame lf lc =
+syndrome-of-whole : (n pad door slot L : ℕ) (cs frame : List ℕ) → length frame ≡ L + tag-size n → length cs ≡ 64 + 8 * L
+    → syndrome n cs pad door slot frame ≡ bitXor (picked (whole n door slot frame) (cs ++ units n)) pad
+syndrome-of-whole n pad door slot L cs frame lf lc =
     let text = text-of door slot (payload-of n frame) in
     let lt : length text ≡ length cs =
     length-append (bound-word door slot) (bits (payload-of n frame))
     ∙ omega (arith, length-bound-word door slot, length-bits (payload-of n frame), length-payload n L frame lf) in
-    rotate (picked (tag-bits n frame) (units n)) hidden (picked text cs)
-    ∙ ap (λ (x : ℕ). bitXor x hidden)
+    rotate (picked (tag-bits n frame) (units n)) pad (picked text cs)
+    ∙ ap (λ (x : ℕ). bitXor x pad)
     (sym (picked-append text (tag-bits n frame) cs (units n) lt)
     ∙ ap (λ (r : List Bool). picked r (cs ++ units n)) (append-assoc (bound-word door slot) (bits (payload-of n frame)) (tag-bits n frame)))
 
-module _ (n hidden door slot : ℕ) (cs payload : List ℕ) (hh : hidden < 2 ^ n) (hc : All (λ c. c < 2 ^ n) cs) where
+module _ (n pad door slot : ℕ) (cs payload : List ℕ) (hh : pad < 2 ^ n) (hc : All (λ c. c < 2 ^ n) cs) where
   abbrev sent : List ℕ
-  sent = frame-of n cs hidden door slot payload
+  sent = frame-of n cs pad door slot payload
 
   -- a frame as it was sealed has syndrome zero
-  sealed-zero : syndrome n cs hidden door slot sent ≡ 0
+  sealed-zero : syndrome n cs pad door slot sent ≡ 0
   sealed-zero =
       let D = picked (text-of door slot payload) cs in
-      let t = bitXor D hidden in
-      let lt : t < 2 ^ n = xor-lt n D hidden (picked-lt n (text-of door slot payload) cs hc) hh in
-      ap₂ (λ (b : List Bool) (p : List ℕ). bitXor (bitXor (picked b (units n)) hidden) (picked (text-of door slot p) cs))
-      (frame-tag n hidden door slot cs payload)
-      (frame-payload n hidden door slot cs payload)
-      ∙ ap (λ (x : ℕ). bitXor (bitXor x hidden) D) (picked-units n t ∙ mod-eq-of-lt lt)
-      ∙ ap (λ (x : ℕ). bitXor x D) (xor-assoc D hidden hidden ∙ ap (bitXor D) (xor-self hidden) ∙ xor-zero-r D)
+      let t = bitXor D pad in
+      let lt : t < 2 ^ n = xor-lt n D pad (picked-lt n (text-of door slot payload) cs hc) hh in
+      ap₂ (λ (b : List Bool) (p : List ℕ). bitXor (bitXor (picked b (units n)) pad) (picked (text-of door slot p) cs))
+      (frame-tag n pad door slot cs payload)
+      (frame-payload n pad door slot cs payload)
+      ∙ ap (λ (x : ℕ). bitXor (bitXor x pad) D) (picked-units n t ∙ mod-eq-of-lt lt)
+      ∙ ap (λ (x : ℕ). bitXor x D) (xor-assoc D pad pad ∙ ap (bitXor D) (xor-self pad) ∙ xor-zero-r D)
       ∙ xor-self D
 
   module _ (lc : length cs ≡ 64 + 8 * length payload) (g : List ℕ) (lg : length g ≡ length payload + tag-size n) where
@@ -81,7 +80,7 @@ module _ (n hidden door slot : ℕ) (cs payload : List ℕ) (hh : hidden < 2 ^ n
     length-Z = length-changes (bound-word door slot) (bound-word door slot) refl ∙ length-bound-word door slot
 
     sent-places : length (places n sent) ≡ 8 * length payload + n
-    sent-places = length-places n (length payload) sent (length-frame n hidden door slot cs payload)
+    sent-places = length-places n (length payload) sent (length-frame n pad door slot cs payload)
 
     same-places : length (places n sent) ≡ length (places n g)
     same-places = sent-places ∙ sym (length-places n (length payload) g lg)
@@ -96,14 +95,14 @@ module _ (n hidden door slot : ℕ) (cs payload : List ℕ) (hh : hidden < 2 ^ n
     weight-all = weight-append Z Δ ∙ omega (arith, changes-self (bound-word door slot))
 
     -- the syndrome is the ⊕ of the columns of the changed places
-    syndrome-is : syndrome n cs hidden door slot g ≡ picked (Z ++ Δ) (cs ++ units n)
+    syndrome-is : syndrome n cs pad door slot g ≡ picked (Z ++ Δ) (cs ++ units n)
     syndrome-is =
         let C = cs ++ units n in
-        let p : picked (whole n door slot sent) C ≡ hidden =
-        same-from-xor (picked (whole n door slot sent) C) hidden
-        (sym (syndrome-of-whole n hidden door slot (length payload) cs sent (length-frame n hidden door slot cs payload) lc) ∙ sealed-zero) in
-        syndrome-of-whole n hidden door slot (length payload) cs g lg lc
-        ∙ xor-comm (picked (whole n door slot g) C) hidden
+        let p : picked (whole n door slot sent) C ≡ pad =
+        same-from-xor (picked (whole n door slot sent) C) pad
+        (sym (syndrome-of-whole n pad door slot (length payload) cs sent (length-frame n pad door slot cs payload) lc) ∙ sealed-zero) in
+        syndrome-of-whole n pad door slot (length payload) cs g lg lc
+        ∙ xor-comm (picked (whole n door slot g) C) pad
         ∙ ap (λ (x : ℕ). bitXor x (picked (whole n door slot g) C)) (sym p)
         ∙ sym (picked-changes (whole n door slot sent) (whole n door slot g) C
         (length-append (bound-word door slot) (places n sent)
@@ -126,7 +125,7 @@ module _ (n hidden door slot : ℕ) (cs payload : List ℕ) (hh : hidden < 2 ^ n
     Δ-parts : Δ ≡ payload-changes ++ tag-changes
     unfolding payload-changes tag-changes
     Δ-parts =
-        ap (λ (p : List ℕ). changes (bits p ++ tag-bits n sent) (places n g)) (frame-payload n hidden door slot cs payload)
+        ap (λ (p : List ℕ). changes (bits p ++ tag-bits n sent) (places n g)) (frame-payload n pad door slot cs payload)
         ∙ changes-append (bits payload) (tag-bits n sent) (bits (payload-of n g)) (tag-bits n g) same-payload-bits
 
     length-payload-changes : length payload-changes ≡ 8 * length payload
@@ -164,7 +163,7 @@ module _ (n hidden door slot : ℕ) (cs payload : List ℕ) (hh : hidden < 2 ^ n
     )
 
     -- no changed place: syndrome zero, and the payload that was sealed
-    finds-clean : weight Δ ≡ 0 → finding n cs (syndrome n cs hidden door slot g) ≡ Clean
+    finds-clean : weight Δ ≡ 0 → finding n cs (syndrome n cs pad door slot g) ≡ Clean
     finds-clean h = ap (finding n cs) (syndrome-is ∙ picked-none (Z ++ Δ) (cs ++ units n) (weight-all ∙ h))
 
     clean-restores : Bytes payload → Bytes g → weight Δ ≡ 0 → Restores Clean payload (payload-of n g) Δ
@@ -174,11 +173,11 @@ module _ (n hidden door slot : ℕ) (cs payload : List ℕ) (hh : hidden < 2 ^ n
     -- ---- with the law at distance D
 
     module _ (D : ℕ) (law : Distant n cs D) where
-      nonzero : 1 ≤ weight Δ → weight Δ < D → syndrome n cs hidden door slot g ≢ 0
+      nonzero : 1 ≤ weight Δ → weight Δ < D → syndrome n cs pad door slot g ≢ 0
       nonzero h k e = law (Z ++ Δ) length-all (omega (arith, weight-all)) (omega (arith, weight-all)) (sym syndrome-is ∙ e)
 
       -- a column that is the syndrome stands where the single change is
-      lone : weight Δ + 1 < D → (i : ℕ) → i < length cs + n → getD (cs ++ units n) i 0 ≡ syndrome n cs hidden door slot g
+      lone : weight Δ + 1 < D → (i : ℕ) → i < length cs + n → getD (cs ++ units n) i 0 ≡ syndrome n cs pad door slot g
           → weight (toggle (Z ++ Δ) i) ≡ 0
       lone h i hi e =
           let w = weight-toggle (Z ++ Δ) i in
@@ -191,7 +190,7 @@ module _ (n hidden door slot : ℕ) (cs payload : List ℕ) (hh : hidden < 2 ^ n
           ]
 
       -- one of the text stands in the payload
-      at-column : weight Δ + 1 < D → (p : ℕ) → p < length cs → getD cs p 0 ≡ syndrome n cs hidden door slot g
+      at-column : weight Δ + 1 < D → (p : ℕ) → p < length cs → getD cs p 0 ≡ syndrome n cs pad door slot g
           → (64 ≤ p) × (p - 64 < 8 * length payload) × (weight (toggle payload-changes (p - 64)) ≡ 0) × (weight (toggle Δ (p - 64)) ≡ 0)
       at-column h p hp e =
           let t : weight (toggle (Z ++ Δ) p) ≡ 0 = lone h p (omega arith) (getD-append-left cs (units n) 0 p hp ∙ e) in
@@ -215,7 +214,7 @@ module _ (n hidden door slot : ℕ) (cs payload : List ℕ) (hh : hidden < 2 ^ n
           (outside, inside, omega (arith, ap weight (sym r2) ∙ wΔ, weight-append (toggle payload-changes (p - 64)) tag-changes), wΔ)
 
       -- a unit column stands in the tag
-      at-unit : weight Δ + 1 < D → (k : ℕ) → k < n → getD (units n) k 0 ≡ syndrome n cs hidden door slot g
+      at-unit : weight Δ + 1 < D → (k : ℕ) → k < n → getD (units n) k 0 ≡ syndrome n cs pad door slot g
           → (weight payload-changes ≡ 0) × (weight (toggle Δ (8 * length payload + k)) ≡ 0)
       at-unit h k hk e =
           let q = 8 * length payload + k in
@@ -232,15 +231,15 @@ module _ (n hidden door slot : ℕ) (cs payload : List ℕ) (hh : hidden < 2 ^ n
           ∙ toggle-right payload-changes tag-changes k in
           (omega (arith, ap weight (sym r2) ∙ wΔ, weight-append payload-changes (toggle tag-changes k)), wΔ)
 
-      seen : 1 ≤ weight Δ → weight Δ < D → finding n cs (syndrome n cs hidden door slot g) ≢ Clean
+      seen : 1 ≤ weight Δ → weight Δ < D → finding n cs (syndrome n cs pad door slot g) ≢ Clean
       seen h k e =
-          nonzero h k (subst (Found n cs (syndrome n cs hidden door slot g)) e (found n cs (syndrome n cs hidden door slot g)))
+          nonzero h k (subst (Found n cs (syndrome n cs pad door slot g)) e (found n cs (syndrome n cs pad door slot g)))
 
       -- two changes and more are neither a column nor a unit column
-      many-nowhere : 2 ≤ weight Δ → weight Δ + 1 < D → finding n cs (syndrome n cs hidden door slot g) ≡ Nowhere
-      many-nowhere h k = go (finding n cs (syndrome n cs hidden door slot g)) (found n cs (syndrome n cs hidden door slot g))
+      many-nowhere : 2 ≤ weight Δ → weight Δ + 1 < D → finding n cs (syndrome n cs pad door slot g) ≡ Nowhere
+      many-nowhere h k = go (finding n cs (syndrome n cs pad door slot g)) (found n cs (syndrome n cs pad door slot g))
         where
-          go : (f : Finding) → Found n cs (syndrome n cs hidden door slot g) f → f ≡ Nowhere
+          go : (f : Finding) → Found n cs (syndrome n cs pad door slot g) f → f ≡ Nowhere
           go Clean z = absurd (nonzero (omega arith) (omega arith) z)
           go (Column p) (_, hp, e) =
               absurd (let r = at-column k p hp e in let w = weight-toggle Δ (p - 64) in omega arith)
@@ -251,10 +250,10 @@ module _ (n hidden door slot : ℕ) (cs payload : List ℕ) (hh : hidden < 2 ^ n
 
       -- a single change is mended, and its place is told
       one-restored : Bytes payload → Bytes g → weight Δ ≡ 1 → 2 < D
-          → Restores (finding n cs (syndrome n cs hidden door slot g)) payload (payload-of n g) Δ
-      one-restored hb hg h k = go (finding n cs (syndrome n cs hidden door slot g)) (found n cs (syndrome n cs hidden door slot g))
+          → Restores (finding n cs (syndrome n cs pad door slot g)) payload (payload-of n g) Δ
+      one-restored hb hg h k = go (finding n cs (syndrome n cs pad door slot g)) (found n cs (syndrome n cs pad door slot g))
         where
-          go : (f : Finding) → Found n cs (syndrome n cs hidden door slot g) f → Restores f payload (payload-of n g) Δ
+          go : (f : Finding) → Found n cs (syndrome n cs pad door slot g) f → Restores f payload (payload-of n g) Δ
           go Clean z = absurd (nonzero (omega arith) (omega arith) z)
           go (Column p) (_, hp, e) =
               let r = at-column (omega arith) p hp e in
@@ -276,7 +275,7 @@ module _ (n hidden door slot : ℕ) (cs payload : List ℕ) (hh : hidden < 2 ^ n
           go Nowhere (_, no-column, no-unit) =
               let (i, hi, w) = one-place (Z ++ Δ) (weight-all ∙ h) in
               let z : picked (toggle (Z ++ Δ) i) (cs ++ units n) ≡ 0 = picked-none (toggle (Z ++ Δ) i) (cs ++ units n) w in
-              let e : getD (cs ++ units n) i 0 ≡ syndrome n cs hidden door slot g =
+              let e : getD (cs ++ units n) i 0 ≡ syndrome n cs pad door slot g =
               sym (syndrome-is
               ∙ same-from-xor (picked (Z ++ Δ) (cs ++ units n)) (getD (cs ++ units n) i 0)
               (sym (picked-toggle (Z ++ Δ) (cs ++ units n) i hi) ∙ z)) in
@@ -289,15 +288,15 @@ module _ (n hidden door slot : ℕ) (cs payload : List ℕ) (hh : hidden < 2 ^ n
               ]
 
 pub frames-show : Frames-show
-frames-show n D hidden door slot cs payload g lc hc law hh hb hg lg =
+frames-show n D pad door slot cs payload g lc hc law hh hb hg lg =
     record {
       unchanged = λ h.
-          let clean = finds-clean n hidden door slot cs payload hh hc lc g lg h in (
+          let clean = finds-clean n pad door slot cs payload hh hc lc g lg h in (
             clean,
-            subst (λ (f : Finding). Restores f payload (payload-of n g) (changed-places n (frame-of n cs hidden door slot payload) g)) (sym clean)
-                (clean-restores n hidden door slot cs payload hh hc lc g lg hb hg h),
+            subst (λ (f : Finding). Restores f payload (payload-of n g) (changed-places n (frame-of n cs pad door slot payload) g)) (sym clean)
+                (clean-restores n pad door slot cs payload hh hc lc g lg hb hg h),
           );
-      seen = λ h k. seen n hidden door slot cs payload hh hc lc g lg D law h k;
-      one = λ h k. one-restored n hidden door slot cs payload hh hc lc g lg D law hb hg h k;
-      many = λ h k. many-nowhere n hidden door slot cs payload hh hc lc g lg D law h k;
+      seen = λ h k. seen n pad door slot cs payload hh hc lc g lg D law h k;
+      one = λ h k. one-restored n pad door slot cs payload hh hc lc g lg D law hb hg h k;
+      many = λ h k. many-nowhere n pad door slot cs payload hh hc lc g lg D law h k;
     }

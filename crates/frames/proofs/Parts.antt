@@ -2,7 +2,7 @@
 use mathlib.Core.Path.{_≡_, ap, ap₂, _∙_}
 use mathlib.Core.Bool.{Bool}
 use mathlib.Core.List.{List, _++_}
-use Prim.Native.Nat.{ℕ, _+_, _-_, _*_, _/_, _%_, _^_, _≤_, _<_}
+use Prim.Native.Nat.{ℕ, _+_, _*_, _^_, _≤_}
 use native.Mathlib.Omega.{arith}
 use lib.ListN.{length, take, drop, length-append, length-take, length-drop}
 use lib.Seq.{take-at, drop-at, length-take-le}
@@ -43,21 +43,21 @@ module _ (n L : ℕ) (frame : List ℕ) (size : length frame ≡ L + tag-size n)
       ∙ omega (arith, length-bits (payload-of n frame), length-payload, length-tag-bits)
 
 -- ---- a frame that was sealed
-module _ (n hidden door slot : ℕ) (cs payload : List ℕ) where
+module _ (n pad door slot : ℕ) (cs payload : List ℕ) where
   tag : ℕ
-  tag = tag-of cs hidden door slot payload
+  tag = tag-of cs pad door slot payload
 
   tag-bytes : List ℕ
-  tag-bytes = bytes-of (tag-size n) (tag-of cs hidden door slot payload * 2 ^ spare n)
+  tag-bytes = bytes-of (tag-size n) (tag-of cs pad door slot payload * 2 ^ spare n)
 
   abbrev sent : List ℕ
-  sent = frame-of n cs hidden door slot payload
+  sent = frame-of n cs pad door slot payload
 
   pub length-frame : length sent ≡ length payload + tag-size n
   unfolding tag-bytes
   length-frame =
       length-append payload tag-bytes
-      ∙ ap (λ (k : ℕ). length payload + k) (length-bytes-of (tag-size n) (tag-of cs hidden door slot payload * 2 ^ spare n))
+      ∙ ap (λ (k : ℕ). length payload + k) (length-bytes-of (tag-size n) (tag-of cs pad door slot payload * 2 ^ spare n))
 
   frame-size : length payload ≡ payload-size n sent
   frame-size = omega (arith, length-frame)
@@ -75,7 +75,7 @@ module _ (n hidden door slot : ℕ) (cs payload : List ℕ) where
       ∙ bits-of-add n (spare n) (tag * 2 ^ spare n)
       ∙ ap (λ (x : ℕ). bits-of n x ++ bits-of (spare n) (tag * 2 ^ spare n)) (shl-shr tag (spare n))
 
-  pub frame-tag : tag-bits n sent ≡ bits-of n (tag-of cs hidden door slot payload)
+  pub frame-tag : tag-bits n sent ≡ bits-of n (tag-of cs pad door slot payload)
   unfolding tag
   frame-tag = ap (take n) frame-rest ∙ take-at (bits-of n tag) _ n (length-bits-of n tag)
 

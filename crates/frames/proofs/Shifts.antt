@@ -1,8 +1,8 @@
 -- Between the bits of frames and the shifts and bytes of code.
-use mathlib.Core.Path.{_≡_, refl, sym, ap, ap₂, subst, _∙_}
+use mathlib.Core.Path.{_≡_, sym, ap, ap₂, subst, _∙_}
 use mathlib.Core.Bool.{Bool}
-use mathlib.Core.List.{List, [], _∷_, _++_}
-use Prim.Native.Nat.{ℕ, _+_, _-_, _*_, _/_, _%_, _^_, _≤_, _<_}
+use mathlib.Core.List.{List, _++_}
+use Prim.Native.Nat.{ℕ, _+_, _-_, _/_, _%_, _^_, _<_}
 use native.Mathlib.Omega.{arith}
 use native.Mathlib.Nat.{mod-eq-of-lt, mod-lt, zero-add}
 use lib.ListN.{length, take, drop}
@@ -15,7 +15,7 @@ use Rattle.bits.proofs.Bytes.{bits-bytes-of, number-of, bits-number-of}
 use Rattle.bits.proofs.Picks.{picked-none}
 use Rattle.bits.proofs.Runs.{length-bits-of, bits-append, picked-units, bits-of-mod, bits-of-add}
 use Rattle.bits.proofs.Weights.{weight-zero}
-use Rattle.pads.specs.Pad.{pad}
+use Rattle.pads.specs.Pad.{pad as word-pad}
 use Rattle.frames.specs.Frames.{bound-word, tag-size, spare, pad-of}
 use Rattle.frames.specs.Changed.{Pads-are-pads}
 use Rattle.frames.proofs.Parts.{tag-room}
@@ -32,7 +32,7 @@ pads-are-pads n w h l =
     let e : _≡_ {A = ℕ} 64 (n + (64 - n)) = omega arith in mod-eq-of-lt (shr-below w n (64 - n) (subst (λ (k : ℕ). w < 2 ^ k) e l))
 
 pub pad-of-lt : (n w : ℕ) → pad-of n w < 2 ^ n
-pad-of-lt n w = mod-lt (pad n w) (pow-pos n)
+pad-of-lt n w = mod-lt (word-pad n w) (pow-pos n)
 
 -- the tag that arrives, and its spare bits, from the bytes behind the payload as one number
 module _ (n : ℕ) (bytes : List ℕ) (size : length bytes ≡ tag-size n) (hb : Bytes bytes) where

@@ -7,13 +7,13 @@ use Prim.Native.Nat.{ℕ, _+_, _^_, _≤_, _<_}
 use lib.ListN.{length, getD}
 use Rattle.std.specs.shelf.Lists.{All}
 use Rattle.std.specs.declared.option.Option.{Option}
-use Rattle.std.specs.declared.option.Option.the-variants.{Some, None}
+use Rattle.std.specs.declared.option.Option.the-variants.{Some}
 use Rattle.bits.specs.Bits.{Bytes, weight}
 use Rattle.bits.specs.Changes.{changes}
 use Rattle.bits.specs.Columns.{picked, units}
 use Rattle.frames.specs.Frames.{text-size, tag-size, pad-of, frame-of, payload-of, places, syndrome}
 use Rattle.frames.specs.Findings.{Finding, Clean, Nowhere, finding, mended, told-place, is-somewhere, outside-bound}
-use Rattle.pads.specs.Pad.{pad}
+use Rattle.pads.specs.Pad.{pad as word-pad}
 
 -- The law of columns with the unit columns of width n, at distance D: no choice of 1 to D - 1 of them has ⊕ zero.
 abbrev pub Distant : (n : ℕ) (cs : List ℕ) (D : ℕ) → Type 0
@@ -47,12 +47,12 @@ pub record Shows (n D : ℕ) (payload arrived : List ℕ) (changed : List Bool) 
 -- and so it is of every frame
 abbrev pub Frames-show : Type 0
 Frames-show =
-    (n D hidden door slot : ℕ) (cs payload arrived : List ℕ)
-    → length cs ≡ text-size (length payload) → All (λ c. c < 2 ^ n) cs → Distant n cs D → hidden < 2 ^ n
+    (n D pad door slot : ℕ) (cs payload arrived : List ℕ)
+    → length cs ≡ text-size (length payload) → All (λ c. c < 2 ^ n) cs → Distant n cs D → pad < 2 ^ n
     → Bytes payload → Bytes arrived → length arrived ≡ length payload + tag-size n
-    → let sent = frame-of n cs hidden door slot payload in
-    Shows n D payload arrived (changed-places n sent arrived) (finding n cs (syndrome n cs hidden door slot arrived))
+    → let sent = frame-of n cs pad door slot payload in
+    Shows n D payload arrived (changed-places n sent arrived) (finding n cs (syndrome n cs pad door slot arrived))
 
 -- a word of 64 bits gives its pad
 abbrev pub Pads-are-pads : Type 0
-Pads-are-pads = (n word : ℕ) → n ≤ 64 → word < 2 ^ 64 → pad-of n word ≡ pad n word
+Pads-are-pads = (n word : ℕ) → n ≤ 64 → word < 2 ^ 64 → pad-of n word ≡ word-pad n word

@@ -16,10 +16,12 @@ pub data Finding : Type 0 where
   Unit-column : ℕ → Finding
   Nowhere : Finding
 
+-- by the place among the unit columns, if it has one
 abbrev pub found-in-tag : Option ℕ → Finding
 found-in-tag (Some k) = Unit-column k
 found-in-tag None = Nowhere
 
+-- by the place among the columns of the text, if it has one, and otherwise among the unit columns
 abbrev pub found-in-text : Option ℕ → Option ℕ → Finding
 found-in-text (Some p) in-tag = Column p
 found-in-text None in-tag = found-in-tag in-tag

@@ -8,7 +8,7 @@ use lib.ListN.{length, take, drop}
 use Rattle.bits.specs.Bits.{bits-of, bits}
 use Rattle.bits.specs.Bytes.{bytes-of}
 use Rattle.bits.specs.Columns.{picked, units}
-use Rattle.pads.specs.Pad.{pad}
+use Rattle.pads.specs.Pad.{pad as word-pad}
 
 -- ---- what a frame is made of
 
@@ -39,15 +39,15 @@ spare n = 8 * tag-size n - n
 -- The pad of a frame: that of the width. A word has 64 bits, so that the pad of a width up to 64 has no more than n bits and
 -- the remainder changes nothing; it is taken so that all that is said of frames holds whatever number is handed in as a word.
 abbrev pub pad-of : (n word : ℕ) → ℕ
-pad-of n word = pad n word % 2 ^ n
+pad-of n word = word-pad n word % 2 ^ n
 
 -- the tag: the digest of the text, ⊕ the pad
-abbrev pub tag-of : (cs : List ℕ) (hidden door slot : ℕ) (payload : List ℕ) → ℕ
-tag-of cs hidden door slot payload = bitXor (picked (text-of door slot payload) cs) hidden
+abbrev pub tag-of : (cs : List ℕ) (pad door slot : ℕ) (payload : List ℕ) → ℕ
+tag-of cs pad door slot payload = bitXor (picked (text-of door slot payload) cs) pad
 
 -- the frame: the payload, and directly behind it the tag, its first bit the highest of its first byte
-abbrev pub frame-of : (n : ℕ) (cs : List ℕ) (hidden door slot : ℕ) (payload : List ℕ) → List ℕ
-frame-of n cs hidden door slot payload = payload ++ bytes-of (tag-size n) (tag-of cs hidden door slot payload * 2 ^ spare n)
+abbrev pub frame-of : (n : ℕ) (cs : List ℕ) (pad door slot : ℕ) (payload : List ℕ) → List ℕ
+frame-of n cs pad door slot payload = payload ++ bytes-of (tag-size n) (tag-of cs pad door slot payload * 2 ^ spare n)
 
 -- ---- a frame that arrives
 
@@ -72,6 +72,6 @@ abbrev pub places : (n : ℕ) (frame : List ℕ) → List Bool
 places n frame = bits (payload-of n frame) ++ tag-bits n frame
 
 -- the syndrome: the tag that arrived, ⊕ the pad, ⊕ the digest of the text that arrived
-abbrev pub syndrome : (n : ℕ) (cs : List ℕ) (hidden door slot : ℕ) (frame : List ℕ) → ℕ
-syndrome n cs hidden door slot frame =
-    bitXor (bitXor (picked (tag-bits n frame) (units n)) hidden) (picked (text-of door slot (payload-of n frame)) cs)
+abbrev pub syndrome : (n : ℕ) (cs : List ℕ) (pad door slot : ℕ) (frame : List ℕ) → ℕ
+syndrome n cs pad door slot frame =
+    bitXor (bitXor (picked (tag-bits n frame) (units n)) pad) (picked (text-of door slot (payload-of n frame)) cs)

@@ -1,4 +1,4 @@
--- The small run is worked out by computation.
+-- The small runs are worked out by computation.
 use Rattle.account.proofs.Figures.{figures-stand}
 use Rattle.account.proofs.theorems.figures_stand.Needs as need
 
