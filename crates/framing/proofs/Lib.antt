@@ -1,5 +1,4 @@
 -- Lemmas on sealing and opening.
-pub mod Verdicts
 pub mod Numbers
 pub mod Texts
 pub mod PadAnswers

@@ -27,7 +27,7 @@ use Rattle.account.specs.Sealing.{pad-question}
 use Rattle.account.specs.Opening.{finding-under, payload-under, place-under, read-questions, judge-questions}
 use Rattle.framing.specs.Asked.{frame-questions, put-in-front, reach-question, turned-over}
 use Rattle.framing.specs.Refusals.{plain}
-use Rattle.framing.proofs.Verdicts.{Decides, next, stops, decides, skip, append-none, append-some}
+use Rattle.account.proofs.Verdicts.{Decides, next, stops, decides, past, none-then, refused-then}
 
 -- the tag that arrived, ⊕ the tag that is expected, is the syndrome
 xor-turn : (t d p : ℕ) → bitXor t (bitXor d p) ≡ bitXor (bitXor t p) d
@@ -50,12 +50,12 @@ module _ (k : Meaning) (number c slot : ℕ) (frame : List ℕ) (room : ℕ) (pa
 
   pub not-read : (t : Refusal) → first-refusal (read-questions width frame room) ≡ Some t → verdict (Some t)
   unfolding frame-questions
-  not-read t h = append-some (read-questions (k .width) frame room) rest t (at-key (Some t) h)
+  not-read t h = refused-then (read-questions (k .width) frame room) rest t (at-key (Some t) h)
 
   module _ (read : first-refusal (read-questions width frame room) ≡ None) where
     pub not-covered : pads slot ≡ None → verdict (Some (record { number = 25; slot = Some slot }))
     unfolding frame-questions
-    not-covered h = append-none (read-questions (k .width) frame room) rest (at-key None read) ∙ decides rest _ (stops (ap isSome h))
+    not-covered h = none-then (read-questions (k .width) frame room) rest (at-key None read) ∙ decides rest _ (stops (ap isSome h))
 
     module _ (w len : ℕ) (covered : pads slot ≡ Some w) (el : len ≡ payload-size width frame) where
       pub len-is : len ≡ payload-size (k .width) frame
@@ -66,7 +66,7 @@ module _ (k : Meaning) (number c slot : ℕ) (frame : List ℕ) (room : ℕ) (pa
       not-reached h =
           let e = len-is in
           let far : k .reach < text-size (payload-size (k .width) frame) = omega arith in
-          append-none (read-questions (k .width) frame room) rest (at-key None read)
+          none-then (read-questions (k .width) frame room) rest (at-key None read)
           ∙ decides rest _ (next (ap isSome covered) (stops (lt-leb (text-size (payload-size (k .width) frame)) (k .reach) far)))
 
       module _ (tag expected : ℕ) (et : tag ≡ picked (tag-bits width frame) (units width))
@@ -101,9 +101,9 @@ module _ (k : Meaning) (number c slot : ℕ) (frame : List ℕ) (room : ℕ) (pa
             let found = finding-under k (word (pads slot)) number slot frame in
             let size = payload-size (k .width) frame in
             let same : first-refusal (judge-questions c found) ≡ v = ap (λ (f : Finding). first-refusal (judge-questions c f)) (sym finding-is) ∙ j in
-            append-none (read-questions (k .width) frame room) rest (at-key None read)
-            ∙ skip (isSome (pads slot)) (record { number = 25; slot = Some slot }) (reach-question k size ∷ judge-questions c found) v (ap isSome covered)
-            (skip (leb (text-size size) (k .reach)) (plain 8) (judge-questions c found) v (le-leb (text-size size) (k .reach) near-size) same)
+            none-then (read-questions (k .width) frame room) rest (at-key None read)
+            ∙ past (isSome (pads slot)) (record { number = 25; slot = Some slot }) (reach-question k size ∷ judge-questions c found) v (ap isSome covered)
+            (past (leb (text-size size) (k .reach)) (plain 8) (judge-questions c found) v (le-leb (text-size size) (k .reach) near-size) same)
 
         pub told-so : (place : Option ℕ) → place ≡ told-place (finding (k .width) (k .columns (text-size len)) (bitXor tag expected)) len
             → place ≡ place-under k (word (pads slot)) number slot frame

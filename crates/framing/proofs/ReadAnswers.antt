@@ -14,6 +14,7 @@ use borrow.Rule.Slice.PartMut.{postOf}
 use Rattle.std.specs.declared.option.Option.{Option}
 use Rattle.std.specs.declared.option.Option.the-variants.{Some, None}
 use Rattle.std.proofs.shelf.Elements.{all-drop}
+use Rattle.std.proofs.shelf.Tests.{and-from}
 use Rattle.bits.specs.Bits.{Bytes, weight}
 use Rattle.bits.specs.Columns.{picked, units}
 use Rattle.pads.specs.Sources.{first-eight}
@@ -22,7 +23,7 @@ use Rattle.account.specs.Questions.{first-refusal}
 use Rattle.account.specs.Opening.{read-questions}
 use Rattle.framing.specs.Refusals.{plain}
 use Rattle.framing.proofs.Numbers.{tag-number, spare-number, spare-none}
-use Rattle.framing.proofs.Verdicts.{Decides, all-yes, next, stops, decides, both}
+use Rattle.account.proofs.Verdicts.{Decides, all-yes, next, stops, decides}
 
 -- ---- bytes with zeros behind them
 
@@ -84,7 +85,7 @@ module _ (n : ℕ) (frame : List ℕ) (room size r : ℕ) (small : n ≤ 64) (ab
       ∙ ap (λ (x : ℕ). x % 2 ^ (64 - n)) word-is
 
   in-range : (ltb (tag-size n) (length frame) && leb (length frame) (tag-size n + 119)) ≡ true
-  in-range = both _ _ (lt-ltb (tag-size n) (length frame) (omega arith)) (le-leb (length frame) (tag-size n + 119) (omega arith))
+  in-range = and-from _ _ (lt-ltb (tag-size n) (length frame) (omega arith)) (le-leb (length frame) (tag-size n + 119) (omega arith))
 
   pub spare-ones : (r % (1 * 2 ^ (64 - n) % 2 ^ 64) ≡ 0 → ⊥) → first-refusal (read-questions n frame room) ≡ Some (plain 23)
   spare-ones h =

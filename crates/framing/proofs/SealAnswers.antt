@@ -8,6 +8,7 @@ use lib.Dec.{leb}
 use lib.ListN.{length, drop}
 use borrow.Author.Tests.{le-leb, lt-leb}
 use Rattle.std.specs.Options.{isSome}
+use Rattle.std.proofs.shelf.Tests.{and-from, and-left, and-right}
 use Rattle.std.specs.declared.option.Option.{Option}
 use Rattle.std.specs.declared.option.Option.the-variants.{Some, None}
 use Rattle.bits.specs.Bytes.{bytes-of}
@@ -19,7 +20,7 @@ use Rattle.account.specs.Calls.{Pads, word}
 use Rattle.account.specs.Sealing.{frame-under}
 use Rattle.framing.specs.Asked.{payload-questions, put-in-front}
 use Rattle.framing.specs.Refusals.{plain}
-use Rattle.framing.proofs.Verdicts.{Decides, all-yes, next, stops, decides, both, not-both, not-first}
+use Rattle.account.proofs.Verdicts.{Decides, all-yes, next, stops, decides}
 
 -- ---- what is asked
 
@@ -29,16 +30,16 @@ module _ (k : Meaning) (slot : ℕ) (p out : List ℕ) (pads : Pads) where
 
   pub no-bytes : length p ≡ 0 → verdict (Some (plain 12))
   unfolding payload-questions
-  no-bytes h = decides (payload-questions k slot p out pads) _ (stops (not-first _ _ (lt-leb 1 (length p) (omega arith))))
+  no-bytes h = decides (payload-questions k slot p out pads) _ (stops (and-left _ _ (lt-leb 1 (length p) (omega arith))))
 
-  pub many-bytes : (length p ≡ 0 → ⊥) → 119 < length p → verdict (Some (plain 12))
+  pub many-bytes : 119 < length p → verdict (Some (plain 12))
   unfolding payload-questions
-  many-bytes s h =
-      decides (payload-questions k slot p out pads) _ (stops (not-both _ _ (le-leb 1 (length p) (omega arith)) (lt-leb (length p) 119 h)))
+  many-bytes h =
+      decides (payload-questions k slot p out pads) _ (stops (and-right _ _ (lt-leb (length p) 119 h)))
 
   module _ (some : length p ≡ 0 → ⊥) (few : length p ≤ 119) (size : ℕ) (es : size ≡ tag-size (k .width)) where
     in-range : (leb 1 (length p) && leb (length p) 119) ≡ true
-    in-range = both _ _ (le-leb 1 (length p) (omega arith)) (le-leb (length p) 119 few)
+    in-range = and-from _ _ (le-leb 1 (length p) (omega arith)) (le-leb (length p) 119 few)
 
     pub no-room : length out < length p + size → verdict (Some (plain 13))
     unfolding payload-questions

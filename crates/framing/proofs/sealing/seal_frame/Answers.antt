@@ -19,7 +19,7 @@ returns-then-len-eq0 g c =
     let w = g .P·PadSource .words (c .args .pads .now) in (
       elim (c .then-len-eq0 .either) [
         | inl h ↦ no-bytes k (c .args .slot) (c .args .payload .now) (c .args .out .now) w h
-        | inr h ↦ many-bytes k (c .args .slot) (c .args .payload .now) (c .args .out .now) w (h .0) (h .1)
+        | inr h ↦ many-bytes k (c .args .slot) (c .args .payload .now) (c .args .out .now) w (h .1)
       ],
       search needs,
     )
