@@ -1,0 +1,2 @@
+-- Lemmas on the replies of ends.
+pub mod EndReplies
