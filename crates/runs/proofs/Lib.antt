@@ -1,0 +1,3 @@
+-- Lemmas on one call, and on entries answered so far.
+mod Stepping
+mod Answering

@@ -1,0 +1,3 @@
+-- Calls and replies of the code, in the account's words.
+pub mod Calls
+pub mod Entries
