@@ -3,8 +3,10 @@
 mod calls;
 mod entries;
 mod step;
+mod theorems;
 
 pub use calls::Call;
 pub use calls::Reply;
 pub use entries::Entry;
 pub use entries::run;
+pub use theorems::single_calls_run;
