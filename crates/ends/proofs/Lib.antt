@@ -1,2 +1,3 @@
 -- Lemmas on the replies of ends.
 pub mod EndReplies
+pub mod Reach

@@ -2,3 +2,4 @@
 pub mod Refusals
 pub mod States
 pub mod Replies
+pub mod Reaching

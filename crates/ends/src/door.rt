@@ -62,7 +62,7 @@ impl<F: Family + Drop> DoorEnd<F> {
         ensures follows { λ r. ⌜ (Reaches (door-state meaning (now (self .entry))) → opened r (now (out .exit)) (door-state meaning (now (self .exit))) ≡ open-reply (door-state meaning (now (self .entry))) slot (now (frame .entry)) (now (out .entry)) (words (now (pads .entry)))) ⌝ }
         ensures unchanged { λ r. ⌜ Cases r (λ _. Unit {0}) (λ _. now (self .exit) ≡ now (self .entry)) ⌝ }
     {
-        if slot <= self.keys.last_slot() {
+        if slot <= self.last_slot() {
             return Err(OpenRefusal::SlotSpent);
         }
         let key = self.keys.governing(slot);

@@ -4,6 +4,7 @@ mod door;
 mod reader;
 mod refusals;
 mod schedule;
+mod theorems;
 
 pub use door::DoorEnd;
 pub use reader::ReaderEnd;
@@ -17,3 +18,4 @@ pub use refusals::KeyRefusal;
 pub use refusals::KeyRefusalDisplay;
 pub use schedule::NEEDED_REACH;
 pub use schedule::NEEDED_WIDTH;
+pub use theorems::reaching_lasts;

@@ -56,7 +56,7 @@ impl<F: Family + Drop> ReaderEnd<F> {
         ensures follows { λ r. ⌜ (Reaches (reader-state meaning (now (self .entry))) → sealed r (now (out .exit)) (reader-state meaning (now (self .exit))) ≡ seal-reply (reader-state meaning (now (self .entry))) slot (now (payload .entry)) (now (out .entry)) (words (now (pads .entry)))) ⌝ }
         ensures unchanged { λ r. ⌜ Cases r (λ _. Unit {0}) (λ _. now (self .exit) ≡ now (self .entry)) ⌝ }
     {
-        if slot <= self.keys.last_slot() {
+        if slot <= self.last_slot() {
             return Err(SealRefusal::SlotSpent);
         }
         let key = self.keys.governing(slot);

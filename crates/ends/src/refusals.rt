@@ -54,8 +54,8 @@ impl DoorRefusal {
 pub impl From<KeyRefusal> for DoorRefusal as DoorRefusalFromKey {
     ghost converts = { λ e r. r ≡ door-key e };
 
-    fn from(refusal: KeyRefusal) -> DoorRefusal {
-        DoorRefusal::Key(refusal)
+    fn from(wrong: KeyRefusal) -> DoorRefusal {
+        DoorRefusal::Key(wrong)
     }
 }
 
@@ -98,8 +98,8 @@ impl ChangeRefusal {
 pub impl From<KeyRefusal> for ChangeRefusal as ChangeRefusalFromKey {
     ghost converts = { λ e r. r ≡ change-key e };
 
-    fn from(refusal: KeyRefusal) -> ChangeRefusal {
-        ChangeRefusal::Key(refusal)
+    fn from(wrong: KeyRefusal) -> ChangeRefusal {
+        ChangeRefusal::Key(wrong)
     }
 }
 

@@ -46,16 +46,18 @@ impl SealRefusal {
 pub impl From<PadFault> for SealRefusal as SealRefusalFromFault {
     ghost converts = { λ e r. r ≡ seal-no-pad e };
 
-    fn from(fault: PadFault) -> SealRefusal {
-        SealRefusal::NoPad(fault)
+    fn from(unanswered: PadFault) -> SealRefusal {
+        SealRefusal::NoPad(unanswered)
     }
 }
 
 pub impl From<OutOfReach> for SealRefusal as SealRefusalFromReach {
     ghost converts = { λ _ r. r ≡ seal-out-of-reach };
 
-    fn from(_refusal: OutOfReach) -> SealRefusal {
-        SealRefusal::OutOfReach
+    fn from(refusal: OutOfReach) -> SealRefusal {
+        match refusal {
+            OutOfReach => SealRefusal::OutOfReach,
+        }
     }
 }
 
@@ -117,16 +119,18 @@ impl OpenRefusal {
 pub impl From<PadFault> for OpenRefusal as OpenRefusalFromFault {
     ghost converts = { λ e r. r ≡ open-no-pad e };
 
-    fn from(fault: PadFault) -> OpenRefusal {
-        OpenRefusal::NoPad(fault)
+    fn from(unanswered: PadFault) -> OpenRefusal {
+        OpenRefusal::NoPad(unanswered)
     }
 }
 
 pub impl From<OutOfReach> for OpenRefusal as OpenRefusalFromReach {
     ghost converts = { λ _ r. r ≡ open-out-of-reach };
 
-    fn from(_refusal: OutOfReach) -> OpenRefusal {
-        OpenRefusal::OutOfReach
+    fn from(refusal: OutOfReach) -> OpenRefusal {
+        match refusal {
+            OutOfReach => OpenRefusal::OutOfReach,
+        }
     }
 }
 
