@@ -9,6 +9,7 @@ use Rattle.bits.specs.Columns.{place}
 use Rattle.family.specs.declared.raw.RawKey.{RawKey}
 use Rattle.family.specs.Meaning.{Meaning, digest-of}
 use Rattle.family.specs.Questions.{Question, AllYes, FirstNo}
+use Rattle.account.specs.Sealing.{frame-under}
 use Rattle.crc.specs.Crc.{crc, crc-questions}
 use Rattle.parity.specs.Layered.{layered}
 use Rattle.lfsr.specs.Keys.{toeplitz, toeplitz-questions, mac-c, mac-c-questions}
@@ -20,6 +21,10 @@ raw-key state reach = record { degree = 3; coefficients = 3; state = state; reac
 -- a raw CRC key of degree 4 and coefficients 13, that is x^4 + x^3 + x^2 + 1, for a reach
 abbrev pub raw-crc : ℕ → RawKey
 raw-crc reach = record { degree = 4; coefficients = 13; state = 0; reach = reach }
+
+-- a raw CRC key that serves an end: degree 63 and coefficients 3, that is x^63 + x + 1
+abbrev pub wide-crc : RawKey
+wide-crc = record { degree = 63; coefficients = 3; state = 0; reach = 1016 }
 
 -- admission says yes, and admission refuses with a number
 abbrev pub Admitted : List Question → Type 0
@@ -45,6 +50,10 @@ HasDistance key distance = key .distance ≡ distance
 abbrev pub HasPlace : Meaning → (m number : ℕ) → ℕ → Type 0
 HasPlace key m number at = place number (key .columns m) ≡ Some at
 
+-- a payload, sealed for a slot of a door under a pad word, makes this frame
+abbrev pub Seals : Meaning → (word door slot : ℕ) (payload frame : List ℕ) → Type 0
+Seals key word door slot payload frame = frame-under key word door slot payload ≡ frame
+
 -- the bits 1011000, with a zero behind them to fill the byte
 abbrev pub text : List ℕ
 text = 0xB0 ∷ []
@@ -65,6 +74,7 @@ figures =
     ∷ Admitted (crc-questions (raw-crc 3))
     ∷ RefusedWith 6 (crc-questions (raw-crc 4))
     ∷ HasColumns (layered (toeplitz (raw-key 5 4))) 4 (11 ∷ 7 ∷ 14 ∷ 13 ∷ [])
+    ∷ Seals (crc wide-crc) 2 0 1 (1 ∷ []) (1 ∷ 0 ∷ 0 ∷ 0 ∷ 0 ∷ 0 ∷ 0 ∷ 6 ∷ 4 ∷ [])
     ∷ []
 
 -- every figure of a list is right

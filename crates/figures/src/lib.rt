@@ -8,5 +8,5 @@ pub fn figures_proved() -> u32
     ensures count { λ r. ⌜ r ≡ length the-figures ⌝ }
     ensures stand { λ _. ⌜ Stand the-figures ⌝ }
 {
-    14
+    15
 }

@@ -2,10 +2,12 @@
 use mathlib.Core.Path.{refl}
 use native.Mathlib.Omega.{arith}
 use lib.Count.{ones, onesIn}
+use Rattle.account.specs.Sealing.{frame-under}
 use Rattle.bits.specs.Bits.{bits-of}
 use Rattle.crc.specs.Crc.{crc}
 use Rattle.crc.specs.Powers.{times-x}
 use Rattle.family.specs.declared.raw.Start.the-variants.{Zero, Nonzero}
+use Rattle.frames.specs.Frames.{tag-size, bound-word}
 use Rattle.lfsr.specs.Register.{step}
 use Rattle.lfsr.specs.Keys.{evened, toeplitz, mac-c}
 use Rattle.parity.specs.Layered.{odded}
@@ -14,7 +16,7 @@ use Rattle.figures.proofs.Forms.{register-formed, crc-formed, admitted, refuse
 use Rattle.figures.proofs.figures_proved.Needs as need
 
 pub returns : need.returns
-unfolding bits-of step evened times-x odded ones onesIn
+unfolding bits-of step evened times-x odded ones onesIn frame-under tag-size bound-word
 returns c =
     record {
       count = refl;
@@ -44,7 +46,7 @@ returns c =
                               admitted Zero (raw-crc 3) (crc (raw-crc 3)) (crc-formed 3 (omega arith) (omega arith)) refl,
                               (
                                 refused Zero (raw-crc 4) (crc (raw-crc 4)) (crc-formed 4 (omega arith) (omega arith)) refl,
-                                (refl, tt),
+                                (refl, (refl, tt)),
                               ),
                             ),
                           ),
