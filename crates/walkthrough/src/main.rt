@@ -1,4 +1,5 @@
 //! A demonstration: a MAC-C key at work, from raw key to mended bit. Each action is printed as it is done.
+mod day;
 mod full_size;
 mod printing;
 mod refused;
@@ -11,6 +12,7 @@ fn run(rt: &LibcRuntime) -> Result<(), AnyError> {
     small::show(rt)?;
     full_size::show(rt)?;
     watching::show(rt)?;
+    day::show(rt)?;
     refused::show(rt)?;
     let figures = figures::figures_proved();
     println!(rt, "")?;
