@@ -7,6 +7,9 @@ mod schedule;
 mod theorems;
 
 pub use door::DoorEnd;
+pub use framing::OpenRefusal;
+pub use framing::Opened;
+pub use framing::SealRefusal;
 pub use reader::ReaderEnd;
 pub use refusals::ChangeRefusal;
 pub use refusals::ChangeRefusalDisplay;

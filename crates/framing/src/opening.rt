@@ -59,7 +59,8 @@ fn write_payload(payload: &[u8], mended: Option<usize>, out: &mut [u8])
     }
 }
 
-// Opens a frame for a slot at a door: writes its payload, mended where that is allowed, at the front of `out`.
+// Opens a frame for a slot at a door: writes its payload, mended where that is allowed, at the front of `out`. Whether the slot
+// was opened before is the end's to ask.
 pub fn open_frame<F: Family, P: PadSource>(
     key: &F,
     door: u32,

@@ -13,6 +13,7 @@ ghost use mathlib.Core.Path.{_≡_};
 use crate::refusals::OpenRefusal;
 use crate::refusals::OpenRefusalFromReach;
 use crate::tags;
+use crate::tags::BOUND_BITS;
 use crate::tags::LONGEST_PAYLOAD;
 use bits::unit_place;
 use family::Family;
@@ -84,12 +85,12 @@ pub(crate) fn judge<F: Family>(
     if allowance != 1 {
         return Err(OpenRefusal::Changed);
     }
-    let in_text = key.locate(syndrome, 64 + 8 * len)?;
+    let in_text = key.locate(syndrome, BOUND_BITS + 8 * len)?;
     if let Some(place) = in_text {
-        if place < 64 {
+        if place < BOUND_BITS {
             return Err(OpenRefusal::BoundWord);
         }
-        return Ok(Some(place - 64));
+        return Ok(Some(place - BOUND_BITS));
     }
     let in_tag = unit_place(syndrome, key.width());
     let Some(place) = in_tag else {

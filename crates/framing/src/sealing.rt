@@ -37,7 +37,8 @@ fn write_frame(payload: &[u8], tag: u64, width: u32, out: &mut [u8])
     write_tag(tag, width, &mut out[len..]);
 }
 
-// Seals a payload for a slot at a door: writes its frame at the front of `out` and tells the frame's length.
+// Seals a payload for a slot at a door: writes its frame at the front of `out` and tells the frame's length. Whether the slot
+// was sealed before is the end's to ask.
 pub fn seal_frame<F: Family, P: PadSource>(
     key: &F,
     door: u32,

@@ -15,6 +15,11 @@ use pads::first_bits;
 // The most bytes of a payload.
 pub const LONGEST_PAYLOAD: usize = 119;
 
+// The bound word, which stands before the payload in every text: the door's number and the slot.
+pub(crate) const BOUND_BITS: usize = 64;
+
+const BOUND_BYTES: usize = 8;
+
 // That a slice holds bytes is known once one of them is read.
 pub(crate) fn hold_bytes(slice: &[u8])
     ensures { λ _. ⌜ Bytes (now (slice .entry)) ⌝ }
@@ -41,7 +46,7 @@ fn put_text(door: u32, slot: u32, payload: &[u8], text: &mut [u8; 127])
     let len = payload.len();
     text[0..4].copy_from_slice(&door.to_be_bytes());
     text[4..8].copy_from_slice(&slot.to_be_bytes());
-    text[8..8 + len].copy_from_slice(payload);
+    text[BOUND_BYTES..BOUND_BYTES + len].copy_from_slice(payload);
 }
 
 // The tag of a payload at a door and a slot, under a pad word.
@@ -62,6 +67,6 @@ pub(crate) fn tag<F: Family>(
     let mut text = [0u8; 127];
     let len = payload.len();
     put_text(door, slot, payload, &mut text);
-    let digest = key.digest(&text[0..8 + len], 64 + 8 * len)?;
+    let digest = key.digest(&text[0..BOUND_BYTES + len], BOUND_BITS + 8 * len)?;
     Ok(digest ^ first_bits(word, key.width()))
 }
