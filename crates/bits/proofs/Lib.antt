@@ -9,5 +9,5 @@ pub mod Linear
 pub mod Weights
 pub mod OnesOfBits
 pub mod Changes
-pub mod Bytes
+pub mod BytesOfNumbers
 pub mod Locating

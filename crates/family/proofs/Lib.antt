@@ -3,7 +3,6 @@ pub mod Asking
 pub mod Separates
 pub mod Laws
 pub mod OrbitColumns
-pub mod Places
 pub mod Deciding
 pub mod OddColumns
 pub mod LawSeparates

@@ -17,7 +17,7 @@ use Rattle.std.proofs.shelf.Tests.{true≢false, cases-lt, le-leb}
 use Rattle.bits.specs.Bits.{Bytes, bits, weight, toggle, flip}
 use Rattle.bits.specs.Changes.{changes}
 use Rattle.bits.specs.Columns.{picked, units}
-use Rattle.bits.proofs.Bytes.{bytes-from-bits, bytes-flip}
+use Rattle.bits.proofs.BytesOfNumbers.{bytes-from-bits, bytes-flip}
 use Rattle.bits.proofs.Changes.{length-changes, changes-append, changes-self, same-from-changes, put-back}
 use Rattle.bits.proofs.Linear.{picked-changes, picked-append, xor-from-same}
 use Rattle.bits.proofs.Picks.{picked-none, picked-lt, picked-toggle, length-toggle}

@@ -10,7 +10,7 @@ use Rattle.std.proofs.shelf.Bits.{shl-shr}
 use Rattle.bits.specs.Bits.{bits-of, bits, weight}
 use Rattle.bits.specs.Bytes.{bytes-of}
 use Rattle.bits.proofs.Runs.{length-bits-of, length-bits, bits-of-add}
-use Rattle.bits.proofs.Bytes.{length-bytes-of, bits-bytes-of}
+use Rattle.bits.proofs.BytesOfNumbers.{length-bytes-of, bits-bytes-of}
 use Rattle.bits.proofs.Weights.{weight-shifted}
 use Rattle.frames.specs.Frames.{bound-word, tag-size, spare, tag-of, frame-of, payload-size, payload-of, tag-bits, spare-bits, places}
 

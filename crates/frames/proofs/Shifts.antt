@@ -11,7 +11,7 @@ use Rattle.std.proofs.shelf.Bits.{pow-pos, shr-below}
 use Rattle.bits.specs.Bits.{Bytes, bits-of, bits, weight}
 use Rattle.bits.specs.Bytes.{bytes-of}
 use Rattle.bits.specs.Columns.{picked, units}
-use Rattle.bits.proofs.Bytes.{bits-bytes-of, number-of, bits-number-of}
+use Rattle.bits.proofs.BytesOfNumbers.{bits-bytes-of, number-of, bits-number-of}
 use Rattle.bits.proofs.Picks.{picked-none}
 use Rattle.bits.proofs.Runs.{length-bits-of, bits-append, picked-units, bits-of-mod, bits-of-add}
 use Rattle.bits.proofs.Weights.{weight-zero}

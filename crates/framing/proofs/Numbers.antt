@@ -10,7 +10,7 @@ use Rattle.std.proofs.shelf.Bits.{pow-pos, pow-add, shl-shr, shr-shr, shr-below
 use Rattle.bits.specs.Bits.{Bytes, bits, weight}
 use Rattle.bits.specs.Bytes.{bytes-of}
 use Rattle.bits.specs.Columns.{picked, units}
-use Rattle.bits.proofs.Bytes.{length-bytes-of, number-of}
+use Rattle.bits.proofs.BytesOfNumbers.{length-bytes-of, number-of}
 use Rattle.pads.specs.Sources.{first-eight}
 use Rattle.frames.specs.Frames.{tag-size, spare}
 use Rattle.frames.proofs.Parts.{tag-room}

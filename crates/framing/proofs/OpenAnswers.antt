@@ -17,7 +17,7 @@ use Rattle.std.specs.declared.option.Option.the-variants.{Some, None}
 use Rattle.std.proofs.shelf.Lists.{set-past}
 use Rattle.bits.specs.Bits.{flip}
 use Rattle.bits.specs.Columns.{picked, units}
-use Rattle.bits.proofs.Bytes.{length-flip}
+use Rattle.bits.proofs.BytesOfNumbers.{length-flip}
 use Rattle.family.specs.Meaning.{Meaning}
 use Rattle.frames.specs.Findings.{Finding, Clean, Column, Unit-column, Nowhere, finding, mended, told-place}
 use Rattle.frames.specs.Frames.{text-size, pad-of, text-of, tag-of, payload-size, payload-of, tag-bits, syndrome}

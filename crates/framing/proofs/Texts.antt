@@ -13,7 +13,7 @@ use Rattle.std.proofs.shelf.Parts.{take-putMid}
 use Rattle.bits.specs.Bits.{bits}
 use Rattle.bits.specs.Bytes.{bytes-of}
 use Rattle.bits.specs.Columns.{picked}
-use Rattle.bits.proofs.Bytes.{length-bytes-of}
+use Rattle.bits.proofs.BytesOfNumbers.{length-bytes-of}
 use Rattle.bits.proofs.Picks.{picked-lt}
 use Rattle.bits.proofs.Runs.{bits-append}
 use Rattle.family.specs.Meaning.{Meaning, Lawful, digest-of}

@@ -15,6 +15,7 @@ use crate::refusals::OpenRefusalFromReach;
 use crate::tags;
 use crate::tags::BOUND_BITS;
 use crate::tags::LONGEST_PAYLOAD;
+use bits::hold_bytes;
 use bits::unit_place;
 use family::Family;
 
@@ -44,7 +45,7 @@ pub(crate) fn read_frame(width: u32, frame: &[u8], room: usize) -> Result<Arrive
         × (a .len ≤ longest-payload) × (a .len ≤ room))
         (Unit {0}) ⌝ }
 {
-    tags::hold_bytes(frame);
+    hold_bytes(frame);
     let size = tags::tag_bytes(width);
     let all = frame.len();
     if all <= size {

@@ -1,6 +1,5 @@
 //! Texts and tags.
 ghost use Prim.Native.Nat.{_+_, _*_, _-_, _^_, _<_, _≤_};
-ghost use Rattle.bits.specs.Bits.{Bytes};
 ghost use Rattle.bits.specs.Bytes.{bytes-of};
 ghost use Rattle.frames.specs.Frames.{pad-of, tag-of, tag-size, text-size};
 ghost use Rattle.frames.specs.Limits.{longest-payload};
@@ -19,15 +18,6 @@ pub const LONGEST_PAYLOAD: usize = 119;
 pub(crate) const BOUND_BITS: usize = 64;
 
 const BOUND_BYTES: usize = 8;
-
-// That a slice holds bytes is known once one of them is read.
-pub(crate) fn hold_bytes(slice: &[u8])
-    ensures { λ _. ⌜ Bytes (now (slice .entry)) ⌝ }
-{
-    if slice.len() > 0 {
-        let _first = slice[0];
-    }
-}
 
 // How many bytes a tag of `width` bits takes.
 pub(crate) fn tag_bytes(width: u32) -> usize

@@ -21,7 +21,7 @@ use Rattle.bits.proofs.UnitColumns.{length-units, getD-units}
 use Rattle.bits.proofs.Xors.{xor-digit, ones-zero, ones-digit, ones-xor}
 use Rattle.family.specs.Meaning.{Separate}
 use Rattle.family.proofs.OddColumns.{Odd}
-use Rattle.family.proofs.Places.{place-none}
+use Rattle.bits.proofs.Locating.{place-none}
 use Rattle.family.proofs.Separates.{separate-append, separate-left, separate-across, separate-units}
 use Rattle.parity.specs.Layered.{odded}
 

@@ -2,22 +2,13 @@
 ghost use Rattle.account.specs.Promise.{Proper};
 ghost use Rattle.ends.specs.States.{door-state, reader-state};
 ghost use Rattle.runs.specs.Calls.{Replies, both, call-of, returned};
-ghost use Rattle.bits.specs.Bits.{Bytes};
 use crate::calls::Call;
 use crate::calls::Reply;
+use bits::hold_bytes;
 use ends::DoorEnd;
 use ends::ReaderEnd;
 use family::Family;
 use pads::PadSource;
-
-// That a slice holds bytes is known once one of them is read.
-fn hold_bytes(bytes: &[u8])
-    ensures { λ _. ⌜ Bytes (now (bytes .entry)) ⌝ }
-{
-    if bytes.len() > 0 {
-        let _byte = bytes[0];
-    }
-}
 
 // What is handed in as bytes is bytes, and the keys of a family keep the law.
 pub fn look_at<F: Family, G: Family, P: PadSource>(call: &Call<F, G, P>)

@@ -1,6 +1,6 @@
 -- A text is put together from its three parts.
 use mathlib.Core.Path.{refl, _∙_}
-use Rattle.bits.proofs.Bytes.{length-bytes-of}
+use Rattle.bits.proofs.BytesOfNumbers.{length-bytes-of}
 use Rattle.bits.specs.Bytes.{bytes-of}
 use Rattle.framing.proofs.Texts.{text-put, four-bytes}
 use Rattle.framing.proofs.tags.put_text.Needs as need

@@ -6,7 +6,7 @@ use native.Mathlib.Omega.{arith}
 use Rattle.std.proofs.shelf.Tests.{cases-eq}
 use Rattle.bits.specs.Columns.{units}
 use Rattle.family.proofs.OrbitColumns.{iterate-more}
-use Rattle.family.proofs.Places.{place-first, place-none}
+use Rattle.bits.proofs.Locating.{place-first, place-none}
 use Rattle.family.proofs.Separates.{separate-left}
 use Rattle.crc.specs.Powers.{times-x, power, crc-columns}
 use Rattle.crc.proofs.Powers.{length-falling, getD-falling, power-top, columns-fewer}

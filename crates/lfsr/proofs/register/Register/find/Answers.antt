@@ -5,7 +5,7 @@ use native.Mathlib.Omega.{arith}
 use borrow.Author.Count.{below-more}
 use Rattle.family.specs.Orbits.{iterate}
 use Rattle.family.proofs.OrbitColumns.{iterate-more, length-orbit, getD-orbit}
-use Rattle.family.proofs.Places.{place-first, place-none}
+use Rattle.bits.proofs.Locating.{place-first, place-none}
 use Rattle.lfsr.specs.Keys.{states}
 use Rattle.lfsr.specs.Register.{step}
 use Rattle.lfsr.proofs.register.Register.find.Needs as need
