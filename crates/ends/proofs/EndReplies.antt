@@ -1,13 +1,11 @@
 -- The calls of an end as replies.
-use mathlib.Core.Path.{_≡_, refl, sym, ap, ap₂, subst, _∙_}
-use mathlib.Core.Bool.{Bool, true, false, _&&_}
-use mathlib.Core.List.{List, [], _∷_, _++_}
-use Prim.Native.Nat.{ℕ, _+_, _*_, _≤_, _<_}
+use mathlib.Core.Path.{_≡_, refl, sym, ap, ap₂, _∙_}
+use mathlib.Core.List.{List, [], _∷_, _++_, append-nil}
+use Prim.Native.Nat.{ℕ, _+_, _≤_, _<_}
 use native.Mathlib.Omega.{arith}
 use lib.Dec.{leb, ltb}
-use lib.ListN.{length, drop}
+use lib.ListN.{length}
 use borrow.Author.Tests.{lt-ltb, le-ltb}
-use Rattle.std.specs.shelf.Lists.{All}
 use Rattle.std.specs.declared.option.Option.{Option}
 use Rattle.std.specs.declared.option.Option.the-variants.{Some, None}
 use Rattle.std.specs.declared.result.Result.the-variants.{Ok, Err}
@@ -77,11 +75,7 @@ module _ (h : EndState) (slot : ℕ) (payload buffer : List ℕ) (pads : Pads) w
       let short : length payload ≤ 119 = leb-true (length payload) 119 (and-parts (leb 1 (length payload)) (leb (length payload) 119) (y .1 .0) .1) in
       let near : text-size (length payload) ≤ governed h slot .reach = omega (arith, full slot) in
       le-leb (text-size (length payload)) (governed h slot .reach) near)
-      ∙ ap first-refusal (append-nothing qs))
-    where
-      append-nothing : (qs : List Question) → qs ++ [] ≡ qs
-      append-nothing [] = refl
-      append-nothing (q ∷ qs) = ap (λ (r : List Question). q ∷ r) (append-nothing qs)
+      ∙ ap first-refusal (append-nil qs))
 
 -- ---- opening
 

@@ -1,13 +1,12 @@
 -- Keys that reach every text: an end has them from its creation on.
 use mathlib.Core.Path.{_≡_, refl, sym, ap, subst, _∙_}
-use mathlib.Core.Bool.{Bool, true, false, not, cond}
-use mathlib.Core.List.{List, [], _∷_, _++_}
+use mathlib.Core.Bool.{Bool, true, false, cond}
+use mathlib.Core.List.{List, [], _∷_}
 use mathlib.Core.Logic.{_≢_}
-use Prim.Native.Nat.{ℕ, _≤_, _<_}
+use Prim.Native.Nat.{ℕ}
 use native.Mathlib.Omega.{arith}
-use lib.Dec.{ltb, leb, eqb}
+use lib.Dec.{ltb, eqb}
 use borrow.Author.Tests.{le-ltb}
-use Rattle.std.specs.Options.{isSome}
 use Rattle.std.specs.shelf.Lists.{All}
 use Rattle.std.specs.declared.option.Option.{Option}
 use Rattle.std.specs.declared.option.Option.the-variants.{Some, None}
@@ -19,7 +18,7 @@ use Rattle.account.specs.Calls.{Pads, word, Answer, Wrote, Opened, Refused}
 use Rattle.account.specs.Keys.{Pending, governing, next-key, key-questions, appoint-questions, strike-questions, withdraw-questions}
 use Rattle.account.specs.Sealing.{seal-questions}
 use Rattle.account.specs.Opening.{finding-under, open-questions}
-use Rattle.account.specs.Ends.{EndState, EndReply, Reaches, governed, with-keys, writes, changes-keys, new-end, appointed, struck, withdrawn, appoint-reply, strike-reply, withdraw-reply, seal-reply, open-reply}
+use Rattle.account.specs.Ends.{EndState, EndReply, Reaches, governed, with-keys, writes, changes-keys, new-end, appointed, struck, withdrawn, seal-reply, open-reply}
 use Rattle.account.proofs.Asking.{passed}
 use Rattle.framing.specs.Refusals.{plain}
 use Rattle.ends.specs.Replies.{any-seal-reply, any-open-reply}
@@ -102,16 +101,13 @@ wrote-accepts n s e = let z : _≡_ {A = ℕ} 0 1 = cc in absurd (omega arith)
 opened-accepts : (n : ℕ) (place : Option ℕ) (s : Refusal) → Opened n place ≢ Refused s
 opened-accepts n place s e = let z : _≡_ {A = ℕ} 0 1 = cc in absurd (omega arith)
 
-apart : (m n : ℕ) → eqb m n ≡ false → m ≢ n
-apart m n e = eqb-false m n e
-
 seal-reached : (h : EndState) (slot : ℕ) (payload buffer : List ℕ) (pads : Pads) → Reaches h
     → any-seal-reply h slot payload buffer pads .answer ≢ Refused (plain 8)
 seal-reached h slot payload buffer pads full e =
     let qs = seal-questions (h .last) slot (governed h slot .width) payload buffer pads in
     let said : seal-reply h slot payload buffer pads .answer ≡ Refused (plain 8) =
     ap (λ (x : EndReply). x .answer) (sym (seal-follows h slot payload buffer pads full)) ∙ e in
-    no-such 8 qs (plain 8) (apart 11 8 refl, (apart 12 8 refl, (apart 13 8 refl, (apart 14 8 refl, tt))))
+    no-such 8 qs (plain 8) (eqb-false 11 8 refl, (eqb-false 12 8 refl, (eqb-false 13 8 refl, (eqb-false 14 8 refl, tt))))
     (refused-with (first-refusal qs) h slot _ _ buffer (plain 8) (wrote-accepts _) said) refl
 
 open-reached : (h : EndState) (slot : ℕ) (frame buffer : List ℕ) (pads : Pads) → Reaches h
@@ -122,7 +118,7 @@ open-reached h slot frame buffer pads full e =
     let said : open-reply h slot frame buffer pads .answer ≡ Refused (plain 8) =
     ap (λ (x : EndReply). x .answer) (sym (open-follows h slot frame buffer pads full)) ∙ e in
     no-such 8 qs (plain 8)
-    (apart 21 8 refl, (apart 22 8 refl, (apart 23 8 refl, (apart 24 8 refl, (apart 25 8 refl, (apart 26 8 refl, (apart 27 8 refl, (apart 28 8 refl, tt))))))))
+    (eqb-false 21 8 refl, (eqb-false 22 8 refl, (eqb-false 23 8 refl, (eqb-false 24 8 refl, (eqb-false 25 8 refl, (eqb-false 26 8 refl, (eqb-false 27 8 refl, (eqb-false 28 8 refl, tt))))))))
     (refused-with (first-refusal qs) h slot _ _ buffer (plain 8) (opened-accepts _ _) said) refl
 
 pub reaching-lasts : Reaching-lasts

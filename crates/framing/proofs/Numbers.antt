@@ -3,8 +3,8 @@ use mathlib.Core.Path.{_≡_, refl, sym, ap, ap₂, subst, _∙_}
 use mathlib.Core.List.{List, [], _∷_, _++_}
 use Prim.Native.Nat.{ℕ, zero, suc, _+_, _-_, _*_, _/_, _%_, _^_, _≤_, _<_}
 use native.Mathlib.Omega.{arith}
-use native.Mathlib.Nat.{zero-add, suc-add, div-one, mod-eq-of-lt, mul-comm, mul-assoc}
-use lib.ListN.{length, getD, take, drop}
+use native.Mathlib.Nat.{zero-add, suc-add, mod-eq-of-lt, mul-comm, mul-assoc}
+use lib.ListN.{length, take, drop}
 use lib.Seq.{take-at}
 use Rattle.std.proofs.shelf.Bits.{pow-pos, pow-add, shl-shr, shr-shr, shr-below, mod-pow-add, mod-low, mul-add-lt, mul-le}
 use Rattle.bits.specs.Bits.{Bytes, bits, weight}

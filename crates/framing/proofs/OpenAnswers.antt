@@ -1,13 +1,12 @@
 -- The questions of opening, stage by stage, and the payload that is written.
 use mathlib.Core.Path.{_≡_, refl, sym, ap, ap₂, subst, _∙_}
-use mathlib.Core.Bool.{Bool, true, false}
-use mathlib.Core.List.{List, [], _∷_, _++_}
-use Prim.Native.Nat.{ℕ, zero, suc, _+_, _-_, _*_, _/_, _%_, _^_, _<_, _≤_}
+use mathlib.Core.List.{List, _∷_, _++_}
+use Prim.Native.Nat.{ℕ, _+_, _-_, _*_, _/_, _<_, _≤_}
 use native.Mathlib.Omega.{arith}
 use native.Mathlib.Nat.{sub-zero}
 use lib.Bits.{bitXor, xor-assoc, xor-comm}
 use lib.Dec.{leb}
-use lib.ListN.{length, take, drop, set, getD, length-take}
+use lib.ListN.{length, take, drop, length-take}
 use lib.Seq.{take-at, drop-at}
 use borrow.Author.Tests.{le-leb, lt-leb}
 use borrow.Rule.Slice.PartMut.{postOf}
@@ -27,7 +26,7 @@ use Rattle.account.specs.Sealing.{pad-question}
 use Rattle.account.specs.Opening.{finding-under, payload-under, place-under, read-questions, judge-questions}
 use Rattle.framing.specs.Asked.{frame-questions, put-in-front, reach-question, turned-over}
 use Rattle.framing.specs.Refusals.{plain}
-use Rattle.account.proofs.Verdicts.{Decides, next, stops, decides, past, none-then, refused-then}
+use Rattle.account.proofs.Verdicts.{next, stops, decides, past, none-then, refused-then}
 
 -- the tag that arrived, ⊕ the tag that is expected, is the syndrome
 xor-turn : (t d p : ℕ) → bitXor t (bitXor d p) ≡ bitXor (bitXor t p) d

@@ -1,6 +1,6 @@
 -- A frame that arrives: its tag from shifts and bytes, and the questions that are asked of it.
 use mathlib.Core.Path.{_≡_, refl, sym, ap, _∙_}
-use mathlib.Core.Bool.{Bool, true, false, _&&_}
+use mathlib.Core.Bool.{true, _&&_}
 use mathlib.Core.List.{List, [], _∷_, _++_}
 use Prim.Native.Nat.{ℕ, zero, suc, _+_, _-_, _*_, _/_, _%_, _^_, _<_, _≤_}
 use native.Mathlib.Omega.{arith}
@@ -11,7 +11,6 @@ use lib.Pow.{shl-exact}
 use lib.Seq.{getD-drop, take-all}
 use borrow.Author.Tests.{eq-eqb, ne-eqb, lt-ltb, le-leb, lt-leb}
 use borrow.Rule.Slice.PartMut.{postOf}
-use Rattle.std.specs.declared.option.Option.{Option}
 use Rattle.std.specs.declared.option.Option.the-variants.{Some, None}
 use Rattle.std.proofs.shelf.Elements.{all-drop}
 use Rattle.std.proofs.shelf.Tests.{and-from}
@@ -23,7 +22,7 @@ use Rattle.account.specs.Questions.{first-refusal}
 use Rattle.account.specs.Opening.{read-questions}
 use Rattle.framing.specs.Refusals.{plain}
 use Rattle.framing.proofs.Numbers.{tag-number, spare-number, spare-none}
-use Rattle.account.proofs.Verdicts.{Decides, all-yes, next, stops, decides}
+use Rattle.account.proofs.Verdicts.{all-yes, next, stops, decides}
 
 -- ---- bytes with zeros behind them
 

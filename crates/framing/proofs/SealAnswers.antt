@@ -1,11 +1,11 @@
 -- The questions of sealing, and the frame that is written.
-use mathlib.Core.Path.{_≡_, refl, sym, ap, ap₂, _∙_}
-use mathlib.Core.Bool.{Bool, true, false, _&&_}
-use mathlib.Core.List.{List, [], _∷_, _++_}
+use mathlib.Core.Path.{_≡_, sym, ap, _∙_}
+use mathlib.Core.Bool.{true, _&&_}
+use mathlib.Core.List.{List, _++_}
 use Prim.Native.Nat.{ℕ, _+_, _*_, _^_, _≤_, _<_}
 use native.Mathlib.Omega.{arith}
 use lib.Dec.{leb}
-use lib.ListN.{length, drop}
+use lib.ListN.{length}
 use borrow.Author.Tests.{le-leb, lt-leb}
 use Rattle.std.specs.Options.{isSome}
 use Rattle.std.proofs.shelf.Tests.{and-from, and-left, and-right}
@@ -20,7 +20,7 @@ use Rattle.account.specs.Calls.{Pads, word}
 use Rattle.account.specs.Sealing.{frame-under}
 use Rattle.framing.specs.Asked.{payload-questions, put-in-front}
 use Rattle.framing.specs.Refusals.{plain}
-use Rattle.account.proofs.Verdicts.{Decides, all-yes, next, stops, decides}
+use Rattle.account.proofs.Verdicts.{all-yes, next, stops, decides}
 
 -- ---- what is asked
 

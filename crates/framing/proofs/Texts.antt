@@ -1,23 +1,22 @@
 -- Texts and tags, as they are put into buffers.
-use mathlib.Core.Path.{_≡_, refl, sym, ap, ap₂, subst, _∙_}
+use mathlib.Core.Path.{_≡_, refl, sym, ap, ap₂, _∙_}
 use mathlib.Core.Bool.{Bool}
 use mathlib.Core.List.{List, [], _∷_, _++_, append-assoc, append-nil}
-use Prim.Native.Nat.{ℕ, zero, suc, _+_, _-_, _*_, _/_, _%_, _^_, _<_, _≤_}
+use Prim.Native.Nat.{ℕ, _+_, _-_, _*_, _/_, _%_, _^_, _<_, _≤_}
 use native.Mathlib.Omega.{arith}
 use native.Mathlib.Nat.{sub-zero, div-one}
-use lib.ListN.{length, take, drop, length-append, length-take, length-drop}
+use lib.ListN.{length, take, drop, length-append, length-take}
 use lib.Seq.{take-all}
 use borrow.Rule.Slice.PartMut.{putMid, postOf}
 use Rattle.std.proofs.shelf.Lists.{take-at, drop-at, drop-all, drop-drop}
 use Rattle.std.proofs.shelf.Parts.{take-putMid}
 use Rattle.bits.specs.Bits.{bits}
 use Rattle.bits.specs.Bytes.{bytes-of}
-use Rattle.bits.specs.Columns.{picked}
 use Rattle.bits.proofs.BytesOfNumbers.{length-bytes-of}
 use Rattle.bits.proofs.Picks.{picked-lt}
 use Rattle.bits.proofs.Runs.{bits-append}
 use Rattle.family.specs.Meaning.{Meaning, Lawful, digest-of}
-use Rattle.frames.specs.Frames.{bound-word, tag-size, spare, text-of}
+use Rattle.frames.specs.Frames.{tag-size, spare, text-of}
 use Rattle.frames.proofs.Shifts.{bound-word-bytes}
 use Rattle.framing.specs.Asked.{put-in-front}
 use Rattle.framing.proofs.Numbers.{tag-in-front}

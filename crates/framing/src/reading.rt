@@ -3,7 +3,7 @@ ghost use Prim.Native.Nat.{_+_, _*_, _-_, _<_, _≤_};
 ghost use Rattle.account.specs.Opening.{judge-questions, read-questions};
 ghost use Rattle.bits.specs.Columns.{picked, units};
 ghost use Rattle.frames.specs.Findings.{finding, told-place};
-ghost use Rattle.frames.specs.Frames.{payload-size, tag-bits, tag-size, text-size};
+ghost use Rattle.frames.specs.Frames.{payload-size, tag-bits, text-size};
 ghost use Rattle.frames.specs.Limits.{longest-payload};
 ghost use Rattle.framing.specs.Asked.{Answers};
 ghost use Rattle.framing.specs.Refusals.{open-refusal};

@@ -1,6 +1,6 @@
 -- Each exit of examining a frame is the answer to its question.
-use mathlib.Core.Path.{_≡_, refl, sym, ap, _∙_}
-use Prim.Native.Nat.{ℕ, _+_, _-_, _*_, _≤_}
+use mathlib.Core.Path.{_≡_, sym, ap, _∙_}
+use Prim.Native.Nat.{ℕ, _-_, _≤_}
 use lib.ListN.{take, length, length-take}
 use native.Mathlib.Nat.{sub-zero}
 use native.Mathlib.Omega.{arith}

@@ -1,5 +1,5 @@
 -- The bit is turned over in the front of the buffer, where the payload was put.
-use mathlib.Core.Path.{_≡_, sym, ap, _∙_}
+use mathlib.Core.Path.{sym, ap, _∙_}
 use Rattle.std.specs.declared.option.Option.{Option}
 use Rattle.framing.specs.Asked.{put-in-front, turned-over}
 use Rattle.framing.proofs.OpenAnswers.{payload-turned}

@@ -1,6 +1,6 @@
 -- Each exit of reading a frame is the answer to its question.
-use mathlib.Core.Path.{_≡_, ap, _∙_}
-use Prim.Native.Nat.{ℕ, _-_, _+_, _<_, _≤_}
+use mathlib.Core.Path.{ap}
+use Prim.Native.Nat.{ℕ, _-_, _<_, _≤_}
 use lib.ListN.{length}
 use native.Mathlib.Omega.{arith}
 use Rattle.framing.proofs.ReadAnswers.{spare-ones, too-little-room, all-read, tag-is}

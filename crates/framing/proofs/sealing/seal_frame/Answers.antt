@@ -1,11 +1,11 @@
 -- Each exit of sealing is the answer to its question.
-use mathlib.Core.Path.{_≡_, refl, sym, ap, _∙_}
+use mathlib.Core.Path.{_≡_, sym, ap, _∙_}
 use mathlib.Core.Logic.{inl, inr}
 use Prim.Native.Nat.{ℕ}
 use borrow.Author.Needs.{needs}
-use Rattle.std.specs.declared.option.Option.the-variants.{Some, None}
+use Rattle.std.specs.declared.option.Option.the-variants.{Some}
 use Rattle.frames.specs.Frames.{tag-size}
-use Rattle.account.specs.Questions.{Refusal, first-refusal}
+use Rattle.account.specs.Questions.{first-refusal}
 use Rattle.framing.specs.Asked.{payload-questions}
 use Rattle.framing.specs.Refusals.{seal-refusal}
 use Rattle.framing.specs.declared.refusals.SealRefusal.the-variants.{NoPad, OutOfReach}

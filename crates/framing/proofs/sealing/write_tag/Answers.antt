@@ -1,6 +1,5 @@
 -- The bytes of a tag are the first of its word, shifted to the top.
-use mathlib.Core.Path.{_≡_, ap, _∙_}
-use mathlib.Core.List.{List}
+use mathlib.Core.Path.{ap, _∙_}
 use Prim.Native.Nat.{ℕ, _-_, _*_, _%_, _^_, _≤_}
 use lib.ListN.{take}
 use lib.Pow.{shl-exact}

@@ -1,5 +1,5 @@
 -- A text is put together from its three parts.
-use mathlib.Core.Path.{refl, _∙_}
+use mathlib.Core.Path.{_∙_}
 use Rattle.bits.proofs.BytesOfNumbers.{length-bytes-of}
 use Rattle.bits.specs.Bytes.{bytes-of}
 use Rattle.framing.proofs.Texts.{text-put, four-bytes}

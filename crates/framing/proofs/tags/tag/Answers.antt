@@ -1,16 +1,15 @@
 -- The tag is the digest of the text, ⊕ the pad.
-use mathlib.Core.Path.{_≡_, refl, sym, ap, subst, _∙_}
+use mathlib.Core.Path.{_≡_, sym, ap, subst, _∙_}
 use mathlib.Core.Bool.{Bool}
 use mathlib.Core.List.{List, _++_}
-use Prim.Native.Nat.{ℕ, _+_, _*_, _-_, _/_, _^_, _<_}
+use Prim.Native.Nat.{ℕ, _+_, _*_, _-_, _^_, _<_}
 use lib.ListN.{length, take}
 use lib.Bits.{bitXor, xor-lt}
 use native.Mathlib.Nat.{sub-zero}
-use Rattle.bits.specs.Bits.{bits}
 use Rattle.bits.specs.Bytes.{bytes-of}
 use Rattle.bits.specs.Columns.{picked}
 use Rattle.family.specs.Meaning.{digest-of}
-use Rattle.frames.specs.Frames.{text-of, text-size, pad-of}
+use Rattle.frames.specs.Frames.{text-of, pad-of}
 use Rattle.frames.proofs.Shifts.{pads-are-pads, pad-of-lt}
 use Rattle.pads.specs.Pad.{pad}
 use Rattle.framing.proofs.Texts.{digest-below, text-bits}

@@ -1,5 +1,5 @@
 -- Each exit of a seal is a reply.
-use mathlib.Core.Path.{_≡_, refl, sym, ap, ap₂, subst, _∙_}
+use mathlib.Core.Path.{_≡_, refl, sym, ap₂, subst, _∙_}
 use mathlib.Core.List.{List}
 use Prim.Native.Nat.{ℕ, _<_}
 use native.Mathlib.Omega.{arith}
@@ -8,7 +8,6 @@ use Rattle.std.specs.Results.{Cases}
 use Rattle.std.specs.declared.option.Option.the-variants.{Some, None}
 use Rattle.std.specs.declared.result.Result.{Result}
 use Rattle.std.specs.declared.result.Result.the-variants.{Err}
-use Rattle.account.specs.Ends.{EndState}
 use Rattle.framing.specs.Refusals.{seal-refusal}
 use Rattle.framing.specs.declared.refusals.SealRefusal.{SealRefusal}
 use Rattle.ends.specs.Replies.{any-seal-reply, sealed}
