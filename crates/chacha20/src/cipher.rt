@@ -122,3 +122,65 @@ pub fn block(key: &[u8; 32], nonce: &[u8; 12], counter: u32) -> [u8; 64]
     add_words(&mut state, &initial);
     serialize(&state)
 }
+
+#[cfg(test)]
+mod tests {
+    use super::quarter_round;
+    use super::quarter_round_at;
+    use std::test::*;
+
+    // Section 2.1.1.
+    #[test]
+    fn quarter_round_of_four_words() -> Result<(), Fail> {
+        let (a, b, c, d) = quarter_round(0x11111111, 0x01020304, 0x9b8d6f43, 0x01234567);
+        check_eq(
+            [a, b, c, d],
+            [0xea2a92f4, 0xcb1cf8ce, 0x4581472e, 0x5881c4bb],
+        )
+    }
+
+    // Section 2.2.1.
+    #[test]
+    fn quarter_round_on_a_state() -> Result<(), Fail> {
+        let mut state = [
+            0x879531e0,
+            0xc5ecf37d,
+            0x516461b1,
+            0xc9a62f8a,
+            0x44c20ef3,
+            0x3390af7f,
+            0xd9fc690b,
+            0x2a5f714c,
+            0x53372767,
+            0xb00a5631,
+            0x974c541a,
+            0x359e9963,
+            0x5c971061,
+            0x3d631689,
+            0x2098d9d6,
+            0x91dbd320,
+        ];
+        quarter_round_at(&mut state, 2, 7, 8, 13);
+        check_eq(
+            state,
+            [
+                0x879531e0,
+                0xc5ecf37d,
+                0xbdb886dc,
+                0xc9a62f8a,
+                0x44c20ef3,
+                0x3390af7f,
+                0xd9fc690b,
+                0xcfacafd2,
+                0xe46bea80,
+                0xb00a5631,
+                0x974c541a,
+                0x359e9963,
+                0x5c971061,
+                0xccc07c79,
+                0x2098d9d6,
+                0x91dbd320,
+            ],
+        )
+    }
+}
