@@ -14,12 +14,13 @@ use Rattle.account.specs.Ends.{Ends}
 use Rattle.account.specs.Runs.{Returned, Kept}
 use Rattle.account.proofs.Sequences.{in-sequence}
 use Rattle.runs.specs.declared.entries.Entry.{Entry}
-use Rattle.runs.specs.Entries.{asked, all-asked, told, all-told}
+use Rattle.runs.specs.Entries.{asked, all-asked, told, all-told, Becomes, All-become}
 
 -- the entries before the next one are answered, a run so far; the others are as they were
 pub record Answering {F G P : Type 0} (m : F → Meaning) (m′ : G → Meaning) (w : P → ℕ → Option ℕ) (found : Ends) (xs ys : List (Entry F G P)) (i : ℕ) (here : Ends) : Type 0 where
   pub same : drop i ys ≡ drop i xs
   pub long : length ys ≡ length xs
+  pub become : All-become (take i xs) (take i ys)
   pub kept : Kept found (all-asked m m′ w (take i xs)) (all-told (take i xs) (take i ys)) here
 
 module _ {F G P : Type 0} (m : F → Meaning) (m′ : G → Meaning) (w : P → ℕ → Option ℕ) where
@@ -36,13 +37,19 @@ module _ {F G P : Type 0} (m : F → Meaning) (m′ : G → Meaning) (w : P → 
   told-push (a ∷ xs) (b ∷ ys) x y e =
       ap (λ (l : List Returned). told a b ++ l) (told-push xs ys x y (omega arith)) ∙ sym (append-assoc (told a b) (all-told xs ys) (told x y))
 
+  become-push : (xs ys : List (Entry F G P)) (x y : Entry F G P) → All-become xs ys → Becomes x y → All-become (xs ++ x ∷ []) (ys ++ y ∷ [])
+  become-push [] [] x y all here = (here, tt)
+  become-push [] (z ∷ ys) x y all here = absurd all
+  become-push (z ∷ xs) [] x y all here = absurd all
+  become-push (a ∷ xs) (b ∷ ys) x y all here = (all .0, become-push xs ys x y (all .1) here)
+
   pub none-yet : (found : Ends) (xs : List (Entry F G P)) → Answering m m′ w found xs xs 0 found
-  none-yet found xs = record { same = refl; long = refl; kept = in-sequence .none found }
+  none-yet found xs = record { same = refl; long = refl; become = tt; kept = in-sequence .none found }
 
   pub one-more : (found here there : Ends) (xs ys : List (Entry F G P)) (i : ℕ) (x y : Entry F G P) → i < length ys → x ≡ getD ys i x
-      → Kept here (asked m m′ w x) (told x y) there
+      → Becomes x y → Kept here (asked m m′ w x) (told x y) there
       → Answering m m′ w found xs ys i here → Answering m m′ w found xs (set ys i y) (i + 1) there
-  one-more found here there xs ys i x y below read next was =
+  one-more found here there xs ys i x y below read became next was =
       let same-length = was .long in
       let within : i < length xs = omega arith in
       let at-xs : getD xs i x ≡ x =
@@ -58,6 +65,9 @@ module _ {F G P : Type 0} (m : F → Meaning) (m′ : G → Meaning) (w : P → 
       record {
         same = drop-set-lt (i + 1) ys i y (omega arith) ∙ sym (drop-drop 1 i ys) ∙ ap (drop 1) (was .same) ∙ drop-drop 1 i xs;
         long = length-set ys i y ∙ was .long;
+        become =
+            subst (λ (l : List (Entry F G P)). All-become l (take (i + 1) (set ys i y))) (sym taken)
+            (subst (λ (l : List (Entry F G P)). All-become (take i xs ++ (x ∷ [])) l) (sym taken′) (become-push (take i xs) (take i ys) x y (was .become) became));
         kept =
             subst (λ (l : List account.Call). Kept found l (all-told (take (i + 1) xs) (take (i + 1) (set ys i y))) there) calls
             (subst (λ (l : List Returned). Kept found (all-asked m m′ w (take i xs) ++ asked m m′ w x) l there) replies
@@ -71,3 +81,10 @@ module _ {F G P : Type 0} (m : F → Meaning) (m′ : G → Meaning) (w : P → 
       let past′ : length xs ≤ i = omega arith in
       subst (λ (l : List (Entry F G P)). Kept found (all-asked m m′ w l) (all-told l ys) here) (take-all i xs past′)
       (subst (λ (l : List (Entry F G P)). Kept found (all-asked m m′ w (take i xs)) (all-told (take i xs) l) here) (take-all i ys past) (was .kept))
+
+  pub all-became : (found here : Ends) (xs ys : List (Entry F G P)) (i : ℕ) → length ys ≤ i → Answering m m′ w found xs ys i here → All-become xs ys
+  all-became found here xs ys i past was =
+      let same-length = was .long in
+      let past′ : length xs ≤ i = omega arith in
+      subst (λ (l : List (Entry F G P)). All-become l ys) (take-all i xs past′)
+      (subst (λ (l : List (Entry F G P)). All-become (take i xs) l) (take-all i ys past) (was .become))

@@ -1,10 +1,12 @@
 -- Entries: a list of calls that is answered where it stands.
+use mathlib.Core.Path.{_≡_}
 use mathlib.Core.List.{List, [], _∷_, _++_}
 use Prim.Native.Nat.{ℕ}
 use Rattle.std.specs.declared.option.Option.{Option}
 use Rattle.family.specs.Meaning.{Meaning}
 use Rattle.account.specs.Calls as account
 use Rattle.account.specs.Runs.{Returned}
+use Rattle.runs.specs.declared.calls.Reply.{Reply}
 use Rattle.runs.specs.declared.entries.Entry.{Entry}
 use Rattle.runs.specs.declared.entries.Entry.the-variants.{Asked, Told, Blank}
 use Rattle.runs.specs.Calls.{call-of, returned}
@@ -34,3 +36,16 @@ abbrev pub all-told : {F G P : Type 0} → (before after : List (Entry F G P)) �
 all-told [] ys = []
 all-told (x ∷ xs) [] = []
 all-told (x ∷ xs) (y ∷ ys) = told x y ++ all-told xs ys
+
+-- what becomes of an entry: one that asked is told, any other stays as it was
+abbrev pub Becomes : {F G P : Type 0} → (before after : Entry F G P) → Type 0
+Becomes (Asked call) after = (reply : Reply) × (after ≡ Told reply)
+Becomes (Told reply) after = after ≡ Told reply
+Becomes Blank after = after ≡ Blank
+
+-- and of each entry of a list, at its own place
+abbrev pub All-become : {F G P : Type 0} → (before after : List (Entry F G P)) → Type 0
+All-become [] [] = Unit {0}
+All-become [] (y ∷ ys) = ⊥
+All-become (x ∷ xs) [] = ⊥
+All-become (x ∷ xs) (y ∷ ys) = Becomes x y × All-become xs ys
