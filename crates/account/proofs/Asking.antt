@@ -1,21 +1,21 @@
 -- Lists of questions: what it means to pass them, and to be refused.
 use Rattle.std.proofs.Common.{◌≡◌, ℕ, Bool, true, false, cond, ◌⊎◌, List, [], ◌∷◌, ◌++◌, Some, None, sym, refl, ap, ◌∙◌, inl, inr, arith}
-use Rattle.std.specs.List.{AllByRecursion as All}
+use Rattle.std.specs.List.{AllByRecursion}
 use Rattle.std.proofs.lemmas.Bool.{true≢false}
 use Rattle.account.specs.Questions.{Refusal, Question, first_refusal, Yes, FirstNo, FirstNoDecides}
 
 -- ---- all are answered yes
 
-pub passed : (qs : List Question) → first_refusal qs ≡ None → All Yes qs
+pub passed : (qs : List Question) → first_refusal qs ≡ None → AllByRecursion Yes qs
 passed [] e = tt
 passed (q ∷ qs) e = go q.passes refl e (passed qs)
   where
-    go : (b : Bool) → q.passes ≡ b → cond b (first_refusal qs) (Some q.otherwise) ≡ None → (first_refusal qs ≡ None → All Yes qs)
-        → (q.passes ≡ true) × All Yes qs
+    go : (b : Bool) → q.passes ≡ b → cond b (first_refusal qs) (Some q.otherwise) ≡ None → (first_refusal qs ≡ None → AllByRecursion Yes qs)
+        → (q.passes ≡ true) × AllByRecursion Yes qs
     go true h k ih = (h, ih k)
     go false h k ih = absurd (let z : ◌≡◌ {A = ℕ} 0 1 = cc in omega arith)
 
-pub passes : (qs : List Question) → All Yes qs → first_refusal qs ≡ None
+pub passes : (qs : List Question) → AllByRecursion Yes qs → first_refusal qs ≡ None
 passes [] h = refl
 passes (q ∷ qs) h = ap (λ (b : Bool). cond b (first_refusal qs) (Some q.otherwise)) h.0 ∙ passes qs h.1
 
@@ -60,7 +60,7 @@ first_no (q ∷ qs) r e = go q.passes refl e (first_no qs r)
     go false h k ih =
         record { before = []; question = q; after = qs; asked = refl; passed = tt; failed = h; refused = cc }
 
-refused-after : (before : List Question) (q : Question) (after : List Question) → All Yes before → q.passes ≡ false
+refused-after : (before : List Question) (q : Question) (after : List Question) → AllByRecursion Yes before → q.passes ≡ false
     → first_refusal (before ++ q ∷ after) ≡ Some q.otherwise
 refused-after [] q after y n = ap (λ (b : Bool). cond b (first_refusal after) (Some q.otherwise)) n
 refused-after (p ∷ before) q after y n =

@@ -1,6 +1,6 @@
 -- What an open makes of a copy of a sealed frame.
 use Rattle.std.proofs.Common.{◌≡◌, ℕ, ◌+◌, ◌*◌, ◌^◌, ◌<◌, ◌≤◌, true, false, ◌||◌, eqb, ltb, leb, ◌≢◌, List, length, is_some, None, Option, sym, refl, ap, ◌∙◌, subst, ap₂, inl, inr, arith}
-use Rattle.std.specs.List.{ContainsAt as Has, AllByRecursion as All}
+use Rattle.std.specs.List.{ContainsAt as Has, AllByRecursion}
 use Rattle.std.proofs.ByRecursion.{all-has}
 use Rattle.std.proofs.lemmas.Bool.{eq-eqb, lt-ltb, le-leb, and_from, or_left, or_right, or_from, ne_eqb, cases_lt}
 use Rattle.bits.specs.Bits.{Bytes, weight}
@@ -72,7 +72,7 @@ module _ (a : Account) (slot : ℕ) (frame buffer : List ℕ) (pads : Pads) (e :
   unfolding cs
   count = genuine.good.lawful.count (text_size L) (omega arith) in_reach
 
-  below : All (λ c. c < 2 ^ n) cs
+  below : AllByRecursion (λ c. c < 2 ^ n) cs
   unfolding cs n
   below = genuine.good.lawful.below (text_size L) (omega arith) in_reach
 

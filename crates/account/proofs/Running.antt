@@ -1,6 +1,6 @@
 -- Whole runs: what stays true along one, and the promise.
 use Rattle.std.proofs.Common.{◌≡◌, ℕ, ◌+◌, ◌*◌, ◌≤◌, List, [], ◌∷◌, ◌++◌, map, length, None, Option, sym, refl, ap, ◌∙◌, subst, inl, inr, arith}
-use Rattle.std.specs.List.{ContainsAt as Has, AllByRecursion as All}
+use Rattle.std.specs.List.{ContainsAt as Has, AllByRecursion}
 use Rattle.std.proofs.lemmas.List.{map_push}
 use Rattle.std.proofs.ByRecursion.{all-has, All-push, All-weaker, has_append_left}
 use Rattle.std.proofs.lemmas.Bool.{eqb-true, ltb-true, leb-true, cases_lt}
@@ -19,11 +19,11 @@ use Rattle.account.proofs.Steps.{Sound, open_asked, step_by, step-sound}
 use Rattle.account.proofs.Offers.{key_used, fits_from, copy_opens, copy_refused}
 use Rattle.account.proofs.Thinning.{has_map, slots, thinned}
 
-all_front : {X : Type 0} (P : X → Type 0) (xs ys : List X) → All P (xs ++ ys) → All P xs
+all_front : {X : Type 0} (P : X → Type 0) (xs ys : List X) → AllByRecursion P (xs ++ ys) → AllByRecursion P xs
 all_front P [] ys h = tt
 all_front P (x ∷ xs) ys h = (h.0, all_front P xs ys h.1)
 
-all_back : {X : Type 0} (P : X → Type 0) (xs ys : List X) → All P (xs ++ ys) → All P ys
+all_back : {X : Type 0} (P : X → Type 0) (xs ys : List X) → AllByRecursion P (xs ++ ys) → AllByRecursion P ys
 all_back P [] ys h = h
 all_back P (x ∷ xs) ys h = all_back P xs ys h.1
 
@@ -33,7 +33,7 @@ pub account_append : (a : Account) (xs ys : List Call) → account_after a (xs +
 account_append a [] ys = refl
 account_append a (x ∷ xs) ys = account_append (outcome a x).after xs ys
 
-pub run_sound : (a : Account) (cs : List Call) → Sound a → All Proper cs → Sound (account_after a cs)
+pub run_sound : (a : Account) (cs : List Call) → Sound a → AllByRecursion Proper cs → Sound (account_after a cs)
 run_sound a [] v p = v
 run_sound a (c ∷ cs) v p = run_sound (outcome a c).after cs (step-sound a c v p.0) p.1
 
@@ -77,19 +77,19 @@ run_allowance a (c ∷ cs) = run_allowance (outcome a c).after cs ∙ step-allow
 
 -- what holds of all keys used by a run holds of those used so far
 module _ (P : Meaning → Type 0) where
-  with_used : (a : Account) (side : Side) (e : EndKeys) (more : List Meaning) → All P (with_end a side e (a.used ++ more)).used → All P a.used
+  with_used : (a : Account) (side : Side) (e : EndKeys) (more : List Meaning) → AllByRecursion P (with_end a side e (a.used ++ more)).used → AllByRecursion P a.used
   with_used a At-reader e more h = all_front P a.used more h
   with_used a At-door e more h = all_front P a.used more h
 
-  step-used : (a : Account) (c : Call) → All P (outcome a c).after.used → All P a.used
+  step-used : (a : Account) (c : Call) → AllByRecursion P (outcome a c).after.used → AllByRecursion P a.used
   step-used a c =
-      step_by (λ (b : Account). All P b.used → All P a.used) a c
+      step_by (λ (b : Account). AllByRecursion P b.used → AllByRecursion P a.used) a c
       (λ h. h)
       (λ slot payload buffer pads is accepted h. h)
       (λ slot frame buffer pads is accepted h. h)
       (with_used a)
 
-  run_used : (a : Account) (cs : List Call) → All P (account_after a cs).used → All P a.used
+  run_used : (a : Account) (cs : List Call) → AllByRecursion P (account_after a cs).used → AllByRecursion P a.used
   run_used a [] h = h
   run_used a (c ∷ cs) h = step-used a c (run_used (outcome a c).after cs h)
 
@@ -98,13 +98,13 @@ module _ (P : Meaning → Type 0) where
 abbrev Far : (c d : ℕ) → Meaning → Type 0
 Far c d k = 2 * c + d + 1 ≤ k.distance
 
-module _ (start : Account) (calls : List Call) (d : ℕ) (v : Sound start) (p : All Proper calls) (far : All (Far start.allowance d) (account_after start calls).used) where
+module _ (start : Account) (calls : List Call) (d : ℕ) (v : Sound start) (p : AllByRecursion Proper calls) (far : AllByRecursion (Far start.allowance d) (account_after start calls).used) where
   module _ (before after : List Call) (slot : ℕ) (frame buffer : List ℕ) (pads : Pads) (split : calls ≡ before ++ Open slot frame buffer pads ∷ after) where
     here : Account
     here = account_after start before
 
-    proper : All Proper (before ++ Open slot frame buffer pads ∷ after)
-    proper = subst (All Proper) split p
+    proper : AllByRecursion Proper (before ++ Open slot frame buffer pads ∷ after)
+    proper = subst (AllByRecursion Proper) split p
 
     sound_here : Sound here
     unfolding here
@@ -120,9 +120,9 @@ module _ (start : Account) (calls : List Call) (d : ℕ) (v : Sound start) (p : 
     far_here : (e : SealedFrame) → Copies here slot frame pads e → 2 * here.allowance + d + 1 ≤ e.key.distance
     unfolding here
     far_here e cp =
-        let u : All (Far start.allowance d) here.used =
+        let u : AllByRecursion (Far start.allowance d) here.used =
         run_used (Far start.allowance d) here (Open slot frame buffer pads ∷ after)
-        (subst (λ (x : Account). All (Far start.allowance d) x.used)
+        (subst (λ (x : Account). AllByRecursion (Far start.allowance d) x.used)
         (ap (account_after start) split ∙ account_append start before (Open slot frame buffer pads ∷ after))
         far) in
         let h : Far start.allowance d e.key =
@@ -157,14 +157,14 @@ module _ (start : Account) (calls : List Call) (d : ℕ) (v : Sound start) (p : 
 -- ---- all that was handed over had been sealed
 
 abbrev AllSealed : Account → Type 0
-AllSealed a = All (Has (sealed_payloads a)) a.handed
+AllSealed a = AllByRecursion (Has (sealed_payloads a)) a.handed
 
 abbrev shown : SealedFrame → HandedOver
 shown e = record { slot = e.slot; payload = e.payload }
 
 add_all_sealed : (a : Account) (e : SealedFrame) → AllSealed a → AllSealed (add_sealed a e)
 add_all_sealed a e h =
-    subst (λ (l : List HandedOver). All (Has l) a.handed) (sym (map_push shown a.sealed e))
+    subst (λ (l : List HandedOver). AllByRecursion (Has l) a.handed) (sym (map_push shown a.sealed e))
     (All-weaker (Has (sealed_payloads a)) (Has (sealed_payloads a ++ shown e ∷ [])) (λ x. has_append_left (sealed_payloads a) (shown e ∷ []) x)
     a.handed
     h)
@@ -175,7 +175,7 @@ with_all_sealed a At-door e used h = h
 
 module _ (d : ℕ) where
   -- an open that is accepted, and only of a copy with few changed bits, hands over what was sealed
-  open_all_sealed : (a : Account) (slot : ℕ) (frame buffer : List ℕ) (pads : Pads) → Sound a → Bytes frame → All (Far a.allowance d) a.used
+  open_all_sealed : (a : Account) (slot : ℕ) (frame buffer : List ℕ) (pads : Pads) → Sound a → Bytes frame → AllByRecursion (Far a.allowance d) a.used
       → ((size : ℕ) (place : Option ℕ) → (outcome a (Open slot frame buffer pads)).answer ≡ Opened size place
       → (e : SealedFrame) × Copies a slot frame pads e × (weight (changed e frame) ≤ a.allowance + d))
       → AllSealed a → first_refusal (open_asked a slot frame buffer pads) ≡ None
@@ -202,10 +202,10 @@ module _ (d : ℕ) where
             let hx : Has (sealed_payloads a) x =
             subst (λ (k : ℕ). Has (sealed_payloads a) (record { slot = k; payload = e.payload })) cp.same_slot
             (has_map shown a.sealed e cp.was_sealed) in
-            subst (All (Has (sealed_payloads a))) m (All-push (Has (sealed_payloads a)) a.handed x h hx)
+            subst (AllByRecursion (Has (sealed_payloads a))) m (All-push (Has (sealed_payloads a)) a.handed x h hx)
       ]
 
-  run_all_sealed : (c : ℕ) (a : Account) (cs : List Call) → a.allowance ≡ c → Sound a → All Proper cs → All (Far c d) (account_after a cs).used
+  run_all_sealed : (c : ℕ) (a : Account) (cs : List Call) → a.allowance ≡ c → Sound a → AllByRecursion Proper cs → AllByRecursion (Far c d) (account_after a cs).used
       → OnlyCopies a cs (c + d) → AllSealed a → AllSealed (account_after a cs)
   run_all_sealed c a [] same v p far only h = h
   run_all_sealed c a (x ∷ cs) same v p far only h =
@@ -215,7 +215,7 @@ module _ (d : ℕ) where
       (λ slot payload buffer pads is accepted. add_all_sealed a _ h)
       (λ slot frame buffer pads is accepted.
       open_all_sealed a slot frame buffer pads v (subst Proper is p.0)
-      (subst (λ (k : ℕ). All (Far k d) a.used) (sym same) (run_used (Far c d) a (x ∷ cs) far))
+      (subst (λ (k : ℕ). AllByRecursion (Far k d) a.used) (sym same) (run_used (Far c d) a (x ∷ cs) far))
       (λ size place answered.
       subst (λ (k : ℕ). (e : SealedFrame) × Copies a slot frame pads e × (weight (changed e frame) ≤ k + d)) (sym same)
       (only [] cs slot frame buffer pads size place (ap (λ (y : Call). y ∷ cs) is) answered))

@@ -1,6 +1,6 @@
 -- Runs in parts: a call among others, and one run after another.
 use Rattle.std.proofs.Common.{◌≡◌, ◌+◌, ◌*◌, ◌≤◌, List, [], ◌∷◌, ◌++◌, map, sym, refl, ap, ◌∙◌, subst, ap₂, append_assoc}
-use Rattle.std.specs.List.{AllByRecursion as All}
+use Rattle.std.specs.List.{AllByRecursion}
 use Rattle.std.proofs.ByRecursion.{All-append}
 use Rattle.std.proofs.lemmas.List.{map-append}
 use Rattle.family.specs.Meaning.{Meaning}
@@ -26,12 +26,12 @@ reaches a v =
     (λ slot. (good_governs a.used a.reader slot v.reader_end).reaches, λ slot. (good_governs a.used a.door slot v.door_end).reaches)
 
 -- what goes on after `before` has the promise, if answers and ends are as the account says
-goes_on : (c : Creations) (before calls : List Call) (returned : List Returned) (left : Ends) → Accepted c → All Proper before → All Proper calls
+goes_on : (c : Creations) (before calls : List Call) (returned : List Returned) (left : Ends) → Accepted c → AllByRecursion Proper before → AllByRecursion Proper calls
     → returned ≡ map worked_out (outcomes (account_after (created c) before) calls)
     → left ≡ ends_of (account_after (account_after (created c) before) calls)
     → GoesOn c before calls returned left
 goes_on c before calls returned left ad pr ps answers stands =
-    let all : All Proper (before ++ calls) = All-append Proper before calls pr ps in
+    let all : AllByRecursion Proper (before ++ calls) = All-append Proper before calls pr ps in
     record {
       answers = answers;
       stands = stands ∙ ap ends_of (sym (account_append (created c) before calls));
@@ -69,9 +69,9 @@ one_after_another found between left first second r s k l c before ad pr here =
           ∙ sym (map-append worked_out (outcomes a first) (outcomes (account_after a first) second))
           ∙ ap (map worked_out) (sym (outcomes-append a first second));
       stands = h.stands ∙ ap (λ (x : List Call). ends_of (account_after (created c) x)) assoc;
-      proper = subst (All Proper) assoc h.proper;
+      proper = subst (AllByRecursion Proper) assoc h.proper;
       promises = λ d.
-          subst (λ (x : List Call). All (λ (q : Meaning). 2 * c.allowance + d + 1 ≤ q.distance) (account_after (created c) x).used → Promise c x d)
+          subst (λ (x : List Call). AllByRecursion (λ (q : Meaning). 2 * c.allowance + d + 1 ≤ q.distance) (account_after (created c) x).used → Promise c x d)
           assoc
           (h.promises d);
     }

@@ -1,7 +1,7 @@
 -- One call, by cases: what it leaves of a property of the account that it can only add to, and what stays true of every account
 -- of a run.
 use Rattle.std.proofs.Common.{◌≡◌, ℕ, ◌^◌, ◌<◌, ◌≤◌, Bool, true, false, cond, ltb, leb, List, [], ◌∷◌, ◌++◌, length, Some, None, Option, sym, refl, subst, append-nil}
-use Rattle.std.specs.List.{ContainsAt as Has, AllByRecursion as All}
+use Rattle.std.specs.List.{ContainsAt as Has, AllByRecursion}
 use Rattle.std.proofs.lemmas.List.{map_push}
 use Rattle.std.proofs.ByRecursion.{All-push, All-weaker, has_append_left, has_push}
 use Rattle.std.proofs.lemmas.Bool.{eqb-true, ltb-true, leb-true, and_parts}
@@ -104,7 +104,7 @@ pub record GoodEnd (used : List Meaning) (e : EndKeys) : Type 0 where
 pub record Sound (a : Account) : Type 0 where
   pub reader_end : GoodEnd a.used a.reader
   pub door_end : GoodEnd a.used a.door
-  pub genuine : All (Genuine a.used) a.sealed
+  pub genuine : AllByRecursion (Genuine a.used) a.sealed
   pub sealed_rise : StrictlyRising 0 (sealed_slots a)
   pub handed_rise : StrictlyRising 0 (handed_slots a)
   pub allowed : a.allowance ≤ 1

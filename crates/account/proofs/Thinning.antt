@@ -1,7 +1,7 @@
 -- Lists in rising order of slots: one whose entries all stand in another is the other with some left out.
 use Rattle.std.proofs.Common.{◌≡◌, ℕ, zero, suc, ◌<◌, ◌⊎◌, List, [], ◌∷◌, map, length, get_or, sym, ap, ◌∙◌, subst, inl, inr, arith}
 use lib.ListN.{length-map}
-use Rattle.std.specs.List.{ContainsAt as Has, AllByRecursion as All}
+use Rattle.std.specs.List.{ContainsAt as Has, AllByRecursion}
 use Rattle.std.proofs.lemmas.List.{get_or-map}
 use Rattle.std.proofs.ByRecursion.{all-has, All-weaker}
 use Rattle.account.specs.Account.{HandedOver}
@@ -21,7 +21,7 @@ has_map f xs x h =
 abbrev pub slots : List HandedOver → List ℕ
 slots xs = map (λ (e : HandedOver). e.slot) xs
 
-above : (s : ℕ) (xs : List HandedOver) → StrictlyRising s (slots xs) → All (λ (h : HandedOver). s < h.slot) xs
+above : (s : ℕ) (xs : List HandedOver) → StrictlyRising s (slots xs) → AllByRecursion (λ (h : HandedOver). s < h.slot) xs
 above s [] r = tt
 above s (x ∷ xs) r = (
   r.0,
@@ -30,27 +30,27 @@ above s (x ∷ xs) r = (
 )
 
 -- what stands after y's slot is not y
-past : (y : HandedOver) (ys xs : List HandedOver) → All (Has (y ∷ ys)) xs → All (λ (h : HandedOver). y.slot < h.slot) xs → All (Has ys) xs
+past : (y : HandedOver) (ys xs : List HandedOver) → AllByRecursion (Has (y ∷ ys)) xs → AllByRecursion (λ (h : HandedOver). y.slot < h.slot) xs → AllByRecursion (Has ys) xs
 past y ys [] h l = tt
 past y ys (x ∷ xs) h l = (
   elim (has_cons y ys x h.0) [ inl e ↦ absurd (omega (arith, ap (λ (z : HandedOver). z.slot) e, l.0)) | inr k ↦ k ],
   past y ys xs h.1 l.1,
 )
 
-pub thinned : (ys xs : List HandedOver) (s t : ℕ) → StrictlyRising s (slots xs) → StrictlyRising t (slots ys) → All (Has ys) xs → SomeLeftOut xs ys
+pub thinned : (ys xs : List HandedOver) (s t : ℕ) → StrictlyRising s (slots xs) → StrictlyRising t (slots ys) → AllByRecursion (Has ys) xs → SomeLeftOut xs ys
 thinned [] [] s t rx ry h = none
 thinned [] (x ∷ xs) s t rx ry h = absurd (omega (arith, h.0.1))
 thinned (y ∷ ys) [] s t rx ry h = left (thinned ys [] s y.slot rx ry.1 tt)
 thinned (y ∷ ys) (x ∷ xs) s t rx ry h =
     elim (has_cons y ys x h.0) [
       | inl e ↦
-          let l : All (λ (z : HandedOver). y.slot < z.slot) xs =
-          subst (λ (w : HandedOver). All (λ (z : HandedOver). w.slot < z.slot) xs) (sym e) (above x.slot xs rx.1) in
+          let l : AllByRecursion (λ (z : HandedOver). y.slot < z.slot) xs =
+          subst (λ (w : HandedOver). AllByRecursion (λ (z : HandedOver). w.slot < z.slot) xs) (sym e) (above x.slot xs rx.1) in
           subst (λ (w : HandedOver). SomeLeftOut (x ∷ xs) (w ∷ ys)) (sym e)
           (kept (thinned ys xs x.slot y.slot rx.1 ry.1 (past y ys xs h.1 l)))
       | inr k ↦
           let first : y.slot < x.slot = all-has (λ (z : HandedOver). y.slot < z.slot) ys x (above y.slot ys ry.1) k in
-          let l : All (λ (z : HandedOver). y.slot < z.slot) xs =
+          let l : AllByRecursion (λ (z : HandedOver). y.slot < z.slot) xs =
           All-weaker (λ (z : HandedOver). x.slot < z.slot) (λ (z : HandedOver). y.slot < z.slot) (λ z m. omega (arith, first)) xs
           (above x.slot xs rx.1) in
           left (thinned ys (x ∷ xs) s y.slot rx ry.1 (k, past y ys xs h.1 l))

@@ -1,6 +1,6 @@
 -- The promise of every run.
 use Rattle.std.specs.Prelude.{◌≡◌, ℕ, ◌+◌, ◌*◌, ◌<◌, ◌≤◌, Bool, List, [], ◌∷◌, ◌++◌, map, length, drop, Some, None, Option}
-use Rattle.std.specs.List.{ContainsAt as Has, AllByRecursion as All}
+use Rattle.std.specs.List.{ContainsAt as Has, AllByRecursion}
 use Rattle.bits.specs.Bits.{Bytes, weight}
 use Rattle.family.specs.Meaning.{Meaning, Lawful, Same}
 use Rattle.frames.specs.Frames.{pad_of, spare_bits}
@@ -114,6 +114,6 @@ pub record Promise (c : Creations) (calls : List Call) (d : ℕ) : Type 0 where
 -- Every run keeps it, for each d that the code distances of its keys leave beside the allowance.
 abbrev pub EveryRun : Type 0
 EveryRun =
-    (c : Creations) (calls : List Call) (d : ℕ) → Accepted c → All Proper calls
-    → All (λ (k : Meaning). 2 * c.allowance + d + 1 ≤ k.distance) (account_after (created c) calls).used
+    (c : Creations) (calls : List Call) (d : ℕ) → Accepted c → AllByRecursion Proper calls
+    → AllByRecursion (λ (k : Meaning). 2 * c.allowance + d + 1 ≤ k.distance) (account_after (created c) calls).used
     → Promise c calls d

@@ -1,6 +1,6 @@
 -- A call asks its questions in order, and the first no is its refusal.
 use Rattle.std.specs.Prelude.{◌≡◌, ℕ, Bool, true, false, cond, List, [], ◌∷◌, ◌++◌, Some, None, Option}
-use Rattle.std.specs.List.{AllByRecursion as All}
+use Rattle.std.specs.List.{AllByRecursion}
 
 -- A refusal: its number, and the slot that it carries. Only a refusal that passes on a pad source's fault carries one: the slot
 -- that the fault names.
@@ -32,13 +32,13 @@ pub record FirstNo (qs : List Question) (r : Refusal) : Type 0 where
   pub question : Question
   pub after : List Question
   pub asked : qs ≡ before ++ question ∷ after
-  pub passed : All Yes before
+  pub passed : AllByRecursion Yes before
   pub failed : question.passes ≡ false
   pub refused : question.otherwise ≡ r
 
 -- both ways round, for every list of questions
 pub record FirstNoDecides : Type 0 where
-  pub accepts : (qs : List Question) → first_refusal qs ≡ None → All Yes qs
-  pub accepted : (qs : List Question) → All Yes qs → first_refusal qs ≡ None
+  pub accepts : (qs : List Question) → first_refusal qs ≡ None → AllByRecursion Yes qs
+  pub accepted : (qs : List Question) → AllByRecursion Yes qs → first_refusal qs ≡ None
   pub refuses : (qs : List Question) (r : Refusal) → first_refusal qs ≡ Some r → FirstNo qs r
   pub refused : (qs : List Question) (r : Refusal) → FirstNo qs r → first_refusal qs ≡ Some r

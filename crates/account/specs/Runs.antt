@@ -1,6 +1,6 @@
 -- Runs in parts: where a call stands in a run, where a sealed frame comes from, and how runs follow each other.
 use Rattle.std.specs.Prelude.{◌≡◌, ℕ, ◌+◌, ◌*◌, ◌≤◌, List, [], ◌∷◌, ◌++◌, map, length, Some}
-use Rattle.std.specs.List.{ContainsAt as Has, AllByRecursion as All}
+use Rattle.std.specs.List.{ContainsAt as Has, AllByRecursion}
 use Rattle.family.specs.Meaning.{Meaning}
 use Rattle.account.specs.Calls.{Pads, Call, Seal, Answer, Wrote}
 use Rattle.account.specs.Account.{SealedFrame, Account, Step, sealed_entry, outcome, outcomes, account_after, Creations, created}
@@ -54,16 +54,16 @@ pub record GoesOn (c : Creations) (before calls : List Call) (returned : List Re
   pub answers : returned ≡ map worked_out (outcomes (account_after (created c) before) calls)
   -- the ends stand as the account says, and all calls were proper: a later run can go on from here
   pub stands : left ≡ ends_of (account_after (created c) (before ++ calls))
-  pub proper : All Proper (before ++ calls)
+  pub proper : AllByRecursion Proper (before ++ calls)
   -- the promise, at every d that the keys used allow
   pub promises :
-      (d : ℕ) → All (λ (k : Meaning). 2 * c.allowance + d + 1 ≤ k.distance) (account_after (created c) (before ++ calls)).used
+      (d : ℕ) → AllByRecursion (λ (k : Meaning). 2 * c.allowance + d + 1 ≤ k.distance) (account_after (created c) (before ++ calls)).used
       → Promise c (before ++ calls) d
 
 -- What a run keeps, wherever it stands: whatever was created and called before, if the ends are found as the account of it says.
 abbrev pub Kept : (found : Ends) (calls : List Call) (returned : List Returned) (left : Ends) → Type 0
 Kept found calls returned left =
-    (c : Creations) (before : List Call) → Accepted c → All Proper before → found ≡ ends_of (account_after (created c) before)
+    (c : Creations) (before : List Call) → Accepted c → AllByRecursion Proper before → found ≡ ends_of (account_after (created c) before)
     → GoesOn c before calls returned left
 
 -- Two ends that were just created stand as the account of no calls says.

@@ -1,4 +1,6 @@
 //! The account of a run, what the ends reply, and the promise of every run.
+#![tactic(auto)]
+
 mod theorems;
 
 pub use theorems::{

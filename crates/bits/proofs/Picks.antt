@@ -2,7 +2,7 @@
 use Rattle.std.proofs.Common.{◌≡◌, ℕ, zero, suc, ◌+◌, ◌^◌, ◌<◌, ◌≤◌, Bool, true, false, cond, not, List, [], ◌∷◌, ◌++◌, length, get_or, sym, refl, ap, ◌∙◌, le_of_suc-le-suc, arith}
 use native.Mathlib.Nat.{suc_inj}
 use lib.Bits.{bit_xor, xor_assoc, xor_comm, xor_self, xor_zero_r, xor_lt}
-use Rattle.std.specs.List.{AllByRecursion as All}
+use Rattle.std.specs.List.{AllByRecursion}
 use Rattle.std.proofs.lemmas.Nat.{pow_pos}
 use Rattle.bits.specs.Bits.{weight, toggle}
 use Rattle.bits.specs.Columns.{picked}
@@ -44,7 +44,7 @@ chosen_lt : (b : Bool) (c k : ℕ) → c < 2 ^ k → cond b c 0 < 2 ^ k
 chosen_lt true c k h = h
 chosen_lt false c k h = pow_pos k
 
-pub picked-lt : (k : ℕ) (bs : List Bool) (cs : List ℕ) → All (λ c. c < 2 ^ k) cs → picked bs cs < 2 ^ k
+pub picked-lt : (k : ℕ) (bs : List Bool) (cs : List ℕ) → AllByRecursion (λ c. c < 2 ^ k) cs → picked bs cs < 2 ^ k
 picked-lt k [] cs h = pow_pos k
 picked-lt k (b ∷ bs) [] h = pow_pos k
 picked-lt k (b ∷ bs) (c ∷ cs) h = xor_lt k (cond b c 0) (picked bs cs) (chosen_lt b c k h.0) (picked-lt k bs cs h.1)

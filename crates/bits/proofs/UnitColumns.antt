@@ -2,7 +2,7 @@
 use Rattle.std.proofs.Common.{◌≡◌, ℕ, zero, suc, ◌+◌, ◌-◌, ◌*◌, ◌/◌, ◌%◌, ◌^◌, ◌<◌, ◌≤◌, cond, eqb, ◌≢◌, ◌⊎◌, List, [], ◌∷◌, length, get_or, Some, None, sym, refl, ap, ◌∙◌, subst, ap₂, inl, inr, ⊎_elim, mod-lt, one-add, arith, pow_pos, shr_lt}
 use lib.Count.{ones, ones_cat}
 use lib.Pow.{pow-lt, split}
-use Rattle.std.specs.List.{AllByRecursion as All}
+use Rattle.std.specs.List.{AllByRecursion}
 use Rattle.std.proofs.lemmas.Nat.{le-div}
 use Rattle.std.proofs.lemmas.Bool.{cases_lt, cases_eq, cond-true, cond-false, eq-eqb, ne_eqb}
 use Rattle.bits.specs.Columns.{units, place, one_on}
@@ -17,7 +17,7 @@ get_or-units zero i h = absurd (omega arith)
 get_or-units (suc n) zero h = ap (λ k. 2 ^ k) (omega arith)
 get_or-units (suc n) (suc i) h = get_or-units n i (omega arith) ∙ ap (λ k. 2 ^ k) (omega arith)
 
-pub units-below : (n k : ℕ) → n ≤ k → All (λ c. c < 2 ^ k) (units n)
+pub units-below : (n k : ℕ) → n ≤ k → AllByRecursion (λ c. c < 2 ^ k) (units n)
 units-below zero k h = tt
 units-below (suc n) k h = (pow-lt h, units-below n k (omega arith))
 

@@ -1,4 +1,6 @@
 //! Bits of bytes, and the columns that they choose.
+#![tactic(auto)]
+
 mod bytes;
 mod masks;
 mod places;

@@ -4,7 +4,7 @@ use Rattle.std.proofs.Math.Path.{sym, ap}
 use Rattle.std.proofs.Common.{ap₂, subst, ◌∙◌, pow-suc, suc-add, zero-add, pow_pos}
 use native.Mathlib.Omega.{arith}
 use Rattle.std.proofs.Math.Pow.{pow-lt}
-use Rattle.std.specs.List.{AllByRecursion as All}
+use Rattle.std.specs.List.{AllByRecursion}
 use Rattle.bits.specs.Columns.{units}
 use Rattle.bits.proofs.Xors.{ones_one}
 use Rattle.family.specs.Meaning.{Separate}
@@ -138,7 +138,7 @@ power-odd k c zero small odd = ap (λ x. x % 2) ones_one
 power-odd k c (suc j) small odd =
     ap (λ x. count_ones x % 2) (iterate_suc (times_x (suc k) c) j 1) ∙ times_x-parity k c (power (suc k) c j) odd (power-lt k c j small) ∙ power-odd k c j small odd
 
-pub falling-below : (n c low m : ℕ) → 1 ≤ n → c < 2 ^ n → All (λ x. x < 2 ^ n) (falling n c low m)
+pub falling-below : (n c low m : ℕ) → 1 ≤ n → c < 2 ^ n → AllByRecursion (λ x. x < 2 ^ n) (falling n c low m)
 falling-below zero c low m h small = absurd (omega arith)
 falling-below (suc k) c low zero h small = tt
 falling-below (suc k) c low (suc m) h small = (power-lt k c (low + m) small, falling-below (suc k) c low m h small)

@@ -7,7 +7,7 @@ ghost use Rattle.crc.specs.Powers.{PowersAreRemainders, crc_columns};
 ghost use Rattle.family.specs.Admission.{admission_number};
 ghost use Rattle.family.specs.Questions.{Asked};
 ghost use Rattle.std.proofs.Common.{⊎_elim, arith};
-ghost use Rattle.std.specs.List.{AllByRecursion as All};
+ghost use Rattle.std.specs.List.{AllByRecursion};
 ghost use Rattle.std.proofs.lemmas.Bool.{cases_eq, cond-true, cond-false, eq-eqb, ne_eqb};
 ghost use Rattle.family.specs.Meaning.{Separate};
 ghost use Rattle.family.proofs.Laws.{lawful_at_3};
@@ -57,7 +57,7 @@ impl Family for CrcKey {
         let n : ℕ = raw.degree in
         let c : ℕ = raw.coefficients in
         let count : (m : ℕ) → 1 ≤ m → m ≤ raw.reach → length (crc_columns n c m) ≡ m = λ m low high. length-falling n c n m in
-        let below : (m : ℕ) → 1 ≤ m → m ≤ raw.reach → All (λ x. x < 2 ^ n) (crc_columns n c m) = λ m low high. falling-below n c n m (omega arith) (omega arith) in
+        let below : (m : ℕ) → 1 ≤ m → m ≤ raw.reach → AllByRecursion (λ x. x < 2 ^ n) (crc_columns n c m) = λ m low high. falling-below n c n m (omega arith) (omega arith) in
         let separate : (m : ℕ) → 1 ≤ m → m ≤ raw.reach → Separate (crc_columns n c m ++ units n) =
         λ m low high. columns_fewer n c m raw.reach (omega arith) high (k.nonzero, k.different) in
         ⊎_elim

@@ -1,6 +1,6 @@
 -- Keys that reach every text: an end has them from its creation on.
 use Rattle.std.proofs.Common.{◌≡◌, ℕ, Bool, true, false, cond, eqb, ltb, ◌≢◌, List, [], ◌∷◌, Some, None, Option, sym, refl, ap, ◌∙◌, subst, arith, le-ltb}
-use Rattle.std.specs.List.{AllByRecursion as All}
+use Rattle.std.specs.List.{AllByRecursion}
 use Rattle.std.proofs.lemmas.Bool.{eqb-true, eqb-false, true≢false}
 use Rattle.family.specs.Meaning.{Meaning}
 use Rattle.frames.specs.Limits.{needed_reach}
@@ -73,7 +73,7 @@ alone h key e slot = e
 -- ---- the refusals that are left
 
 -- a number that no question has is no refusal's
-no_such : (n : ℕ) (qs : List Question) (r : Refusal) → All (λ q. q.otherwise.number ≢ n) qs → first_refusal qs ≡ Some r → r.number ≢ n
+no_such : (n : ℕ) (qs : List Question) (r : Refusal) → AllByRecursion (λ q. q.otherwise.number ≢ n) qs → first_refusal qs ≡ Some r → r.number ≢ n
 no_such n [] r others e = absurd (let z : ◌≡◌ {A = ℕ} 0 1 = cc in omega arith)
 no_such n (q ∷ qs) r others e = go q.passes e (no_such n qs r others.1)
   where

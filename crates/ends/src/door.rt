@@ -24,7 +24,7 @@ impl<F: Family + Drop> DoorEnd<F> {
     // A door's end with its first key; with an allowance of 1 it mends one changed bit of a frame, with 0 none. A key that is
     // refused is dropped.
     pub fn new(key: F, door: u32, allowance: u8) -> Result<DoorEnd<F>, DoorRefusal>
-        ensures { Answers door_refusal (door_questions (meaning key) allowance) result (λ e. door_state meaning e ≡ new_end (meaning key) door allowance) (Unit {0}) }
+        ensures { Answers door_refusal (door_questions (F.meaning key) allowance) result (λ e. door_state F.meaning e ≡ new_end (F.meaning key) door allowance) (Unit {0}) }
     {
         let keys = KeySchedule::new(key, door, allowance)?;
         if allowance > 1 {
@@ -35,14 +35,14 @@ impl<F: Family + Drop> DoorEnd<F> {
 
     // The last slot that was opened, 0 at first.
     pub fn last_slot(&self) -> u32
-        ensures { result ≡ (door_state meaning self.now).last }
+        ensures { result ≡ (door_state F.meaning self.now).last }
     {
         self.keys.last_slot()
     }
 
     // The slot from which the next key governs, if one is appointed.
     pub fn pending_start(&self) -> Option<u32>
-        ensures { result ≡ option_map (λ (p : Pending). p.start) (door_state meaning self.now).next }
+        ensures { result ≡ option_map (λ (p : Pending). p.start) (door_state F.meaning self.now).next }
     {
         self.keys.pending_start()
     }
@@ -55,8 +55,8 @@ impl<F: Family + Drop> DoorEnd<F> {
         out: &mut [u8],
         pads: &P,
     ) -> Result<Opened, OpenRefusal>
-        ensures replies { opened result out.new (door_state meaning self.new) ≡ any_open_reply (door_state meaning self.old) slot frame.now out.old (words pads.now) }
-        ensures follows { Reaches (door_state meaning self.old) → opened result out.new (door_state meaning self.new) ≡ open_reply (door_state meaning self.old) slot frame.now out.old (words pads.now) }
+        ensures replies { opened result out.new (door_state F.meaning self.new) ≡ any_open_reply (door_state F.meaning self.old) slot frame.now out.old (P.words pads.now) }
+        ensures follows { Reaches (door_state F.meaning self.old) → opened result out.new (door_state F.meaning self.new) ≡ open_reply (door_state F.meaning self.old) slot frame.now out.old (P.words pads.now) }
         ensures unchanged { OnErr result (self.new ≡ self.old) }
     {
         if slot <= self.last_slot() {
@@ -78,7 +78,7 @@ impl<F: Family + Drop> DoorEnd<F> {
 
     // Appoints the next key, to govern from a slot on. A key that is refused is dropped.
     pub fn appoint(&mut self, key: F, start: u32) -> Result<(), ChangeRefusal>
-        ensures replies { changed result (door_state meaning self.new) ≡ appoint_reply (door_state meaning self.old) (meaning key) start }
+        ensures replies { changed result (door_state F.meaning self.new) ≡ appoint_reply (door_state F.meaning self.old) (F.meaning key) start }
         ensures unchanged { OnErr result (self.new ≡ self.old) }
     {
         self.keys.appoint(key, start)
@@ -86,7 +86,7 @@ impl<F: Family + Drop> DoorEnd<F> {
 
     // Strikes the current key: the next one takes its place.
     pub fn strike(&mut self) -> Result<(), ChangeRefusal>
-        ensures replies { changed result (door_state meaning self.new) ≡ strike_reply (door_state meaning self.old) }
+        ensures replies { changed result (door_state F.meaning self.new) ≡ strike_reply (door_state F.meaning self.old) }
         ensures unchanged { OnErr result (self.new ≡ self.old) }
     {
         self.keys.strike()
@@ -94,7 +94,7 @@ impl<F: Family + Drop> DoorEnd<F> {
 
     // Withdraws the next key.
     pub fn withdraw(&mut self) -> Result<(), ChangeRefusal>
-        ensures replies { changed result (door_state meaning self.new) ≡ withdraw_reply (door_state meaning self.old) }
+        ensures replies { changed result (door_state F.meaning self.new) ≡ withdraw_reply (door_state F.meaning self.old) }
         ensures unchanged { OnErr result (self.new ≡ self.old) }
     {
         self.keys.withdraw()

@@ -1,5 +1,7 @@
 //! The two ends of a line. The reader's end seals payloads into frames, the door's end opens them. Each holds its keys, its
 //! door's number and the last slot that it has done.
+#![tactic(auto)]
+
 mod door;
 mod reader;
 mod refusals;

@@ -23,7 +23,7 @@ pub struct ReaderEnd<F> {
 impl<F: Family + Drop> ReaderEnd<F> {
     // A reader's end for a door, with its first key. A key that is refused is dropped.
     pub fn new(key: F, door: u32) -> Result<ReaderEnd<F>, KeyRefusal>
-        ensures { Answers key_refusal (key_questions (meaning key)) result (λ e. reader_state meaning e ≡ new_end (meaning key) door 0) (Unit {0}) }
+        ensures { Answers key_refusal (key_questions (F.meaning key)) result (λ e. reader_state F.meaning e ≡ new_end (F.meaning key) door 0) (Unit {0}) }
     {
         let keys = KeySchedule::new(key, door, 0)?;
         Ok(ReaderEnd { keys })
@@ -31,14 +31,14 @@ impl<F: Family + Drop> ReaderEnd<F> {
 
     // The last slot that was sealed, 0 at first.
     pub fn last_slot(&self) -> u32
-        ensures { result ≡ (reader_state meaning self.now).last }
+        ensures { result ≡ (reader_state F.meaning self.now).last }
     {
         self.keys.last_slot()
     }
 
     // The slot from which the next key governs, if one is appointed.
     pub fn pending_start(&self) -> Option<u32>
-        ensures { result ≡ option_map (λ (p : Pending). p.start) (reader_state meaning self.now).next }
+        ensures { result ≡ option_map (λ (p : Pending). p.start) (reader_state F.meaning self.now).next }
     {
         self.keys.pending_start()
     }
@@ -51,8 +51,8 @@ impl<F: Family + Drop> ReaderEnd<F> {
         out: &mut [u8],
         pads: &P,
     ) -> Result<usize, SealRefusal>
-        ensures replies { sealed result out.new (reader_state meaning self.new) ≡ any_seal_reply (reader_state meaning self.old) slot payload.now out.old (words pads.now) }
-        ensures follows { Reaches (reader_state meaning self.old) → sealed result out.new (reader_state meaning self.new) ≡ seal_reply (reader_state meaning self.old) slot payload.now out.old (words pads.now) }
+        ensures replies { sealed result out.new (reader_state F.meaning self.new) ≡ any_seal_reply (reader_state F.meaning self.old) slot payload.now out.old (P.words pads.now) }
+        ensures follows { Reaches (reader_state F.meaning self.old) → sealed result out.new (reader_state F.meaning self.new) ≡ seal_reply (reader_state F.meaning self.old) slot payload.now out.old (P.words pads.now) }
         ensures unchanged { OnErr result (self.new ≡ self.old) }
     {
         if slot <= self.last_slot() {
@@ -66,7 +66,7 @@ impl<F: Family + Drop> ReaderEnd<F> {
 
     // Appoints the next key, to govern from a slot on. A key that is refused is dropped.
     pub fn appoint(&mut self, key: F, start: u32) -> Result<(), ChangeRefusal>
-        ensures replies { changed result (reader_state meaning self.new) ≡ appoint_reply (reader_state meaning self.old) (meaning key) start }
+        ensures replies { changed result (reader_state F.meaning self.new) ≡ appoint_reply (reader_state F.meaning self.old) (F.meaning key) start }
         ensures unchanged { OnErr result (self.new ≡ self.old) }
     {
         self.keys.appoint(key, start)
@@ -74,7 +74,7 @@ impl<F: Family + Drop> ReaderEnd<F> {
 
     // Strikes the current key: the next one takes its place.
     pub fn strike(&mut self) -> Result<(), ChangeRefusal>
-        ensures replies { changed result (reader_state meaning self.new) ≡ strike_reply (reader_state meaning self.old) }
+        ensures replies { changed result (reader_state F.meaning self.new) ≡ strike_reply (reader_state F.meaning self.old) }
         ensures unchanged { OnErr result (self.new ≡ self.old) }
     {
         self.keys.strike()
@@ -82,7 +82,7 @@ impl<F: Family + Drop> ReaderEnd<F> {
 
     // Withdraws the next key.
     pub fn withdraw(&mut self) -> Result<(), ChangeRefusal>
-        ensures replies { changed result (reader_state meaning self.new) ≡ withdraw_reply (reader_state meaning self.old) }
+        ensures replies { changed result (reader_state F.meaning self.new) ≡ withdraw_reply (reader_state F.meaning self.old) }
         ensures unchanged { OnErr result (self.new ≡ self.old) }
     {
         self.keys.withdraw()

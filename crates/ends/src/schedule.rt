@@ -35,7 +35,7 @@ pub struct KeySchedule<F> {
 
 // Can the key serve an end?
 fn check_key<F: Family>(key: &F) -> Result<(), KeyRefusal>
-    ensures { Answers key_refusal (key_questions (meaning key.now)) result (λ _. Unit {0}) (Unit {0}) }
+    ensures { Answers key_refusal (key_questions (F.meaning key.now)) result (λ _. Unit {0}) (Unit {0}) }
 {
     if key.width() < NEEDED_WIDTH {
         return Err(KeyRefusal::TooNarrow);
@@ -48,7 +48,7 @@ fn check_key<F: Family>(key: &F) -> Result<(), KeyRefusal>
 
 impl<F: Family + Drop> KeySchedule<F> {
     pub(crate) fn new(key: F, door: u32, allowance: u8) -> Result<KeySchedule<F>, KeyRefusal>
-        ensures { Answers key_refusal (key_questions (meaning key)) result (λ e. schedule_state meaning e ≡ new_end (meaning key) door allowance) (Unit {0}) }
+        ensures { Answers key_refusal (key_questions (F.meaning key)) result (λ e. schedule_state F.meaning e ≡ new_end (F.meaning key) door allowance) (Unit {0}) }
     {
         check_key(&key)?;
         Ok(KeySchedule {
@@ -62,7 +62,7 @@ impl<F: Family + Drop> KeySchedule<F> {
 
     // The key that governs a slot.
     pub(crate) fn governing(&self, slot: u32) -> &F
-        ensures { meaning result.now ≡ governed (schedule_state meaning self.now) slot }
+        ensures { F.meaning result.now ≡ governed (schedule_state F.meaning self.now) slot }
     {
         match &self.pending {
             None => &self.current,
@@ -77,25 +77,25 @@ impl<F: Family + Drop> KeySchedule<F> {
     }
 
     pub(crate) fn door(&self) -> u32
-        ensures { result ≡ (schedule_state meaning self.now).number }
+        ensures { result ≡ (schedule_state F.meaning self.now).number }
     {
         self.door
     }
 
     pub(crate) fn allowance(&self) -> u8
-        ensures { result ≡ (schedule_state meaning self.now).allowance }
+        ensures { result ≡ (schedule_state F.meaning self.now).allowance }
     {
         self.allowance
     }
 
     pub(crate) fn last_slot(&self) -> u32
-        ensures { result ≡ (schedule_state meaning self.now).last }
+        ensures { result ≡ (schedule_state F.meaning self.now).last }
     {
         self.last
     }
 
     pub(crate) fn pending_start(&self) -> Option<u32>
-        ensures { result ≡ option_map (λ (p : Pending). p.start) (schedule_state meaning self.now).next }
+        ensures { result ≡ option_map (λ (p : Pending). p.start) (schedule_state F.meaning self.now).next }
     {
         match &self.pending {
             Some(pending) => Some(pending.start),
@@ -105,15 +105,15 @@ impl<F: Family + Drop> KeySchedule<F> {
 
     // Makes a slot the last one done.
     pub(crate) fn advance(&mut self, slot: u32)
-        ensures { schedule_state meaning self.new ≡ at_slot (schedule_state meaning self.old) slot }
+        ensures { schedule_state F.meaning self.new ≡ at_slot (schedule_state F.meaning self.old) slot }
     {
         self.last = slot;
     }
 
     // A key that is refused is dropped.
     pub(crate) fn appoint(&mut self, key: F, start: u32) -> Result<(), ChangeRefusal>
-        ensures { Answers change_refusal (appoint_questions (schedule_state meaning self.old).next (schedule_state meaning self.old).last (meaning key) start) result
-            (λ _. schedule_state meaning self.new ≡ appointed (schedule_state meaning self.old) (meaning key) start)
+        ensures { Answers change_refusal (appoint_questions (schedule_state F.meaning self.old).next (schedule_state F.meaning self.old).last (F.meaning key) start) result
+            (λ _. schedule_state F.meaning self.new ≡ appointed (schedule_state F.meaning self.old) (F.meaning key) start)
             (self.new ≡ self.old) }
     {
         if self.pending.is_some() {
@@ -129,8 +129,8 @@ impl<F: Family + Drop> KeySchedule<F> {
 
     // The next key becomes the current one.
     pub(crate) fn strike(&mut self) -> Result<(), ChangeRefusal>
-        ensures { Answers change_refusal (strike_questions (schedule_state meaning self.old).next (schedule_state meaning self.old).last) result
-            (λ _. schedule_state meaning self.new ≡ struck (schedule_state meaning self.old))
+        ensures { Answers change_refusal (strike_questions (schedule_state F.meaning self.old).next (schedule_state F.meaning self.old).last) result
+            (λ _. schedule_state F.meaning self.new ≡ struck (schedule_state F.meaning self.old))
             (self.new ≡ self.old) }
     {
         match self.pending.take() {
@@ -149,8 +149,8 @@ impl<F: Family + Drop> KeySchedule<F> {
 
     // The next key is given up.
     pub(crate) fn withdraw(&mut self) -> Result<(), ChangeRefusal>
-        ensures { Answers change_refusal (withdraw_questions (schedule_state meaning self.old).next (schedule_state meaning self.old).last) result
-            (λ _. schedule_state meaning self.new ≡ withdrawn (schedule_state meaning self.old))
+        ensures { Answers change_refusal (withdraw_questions (schedule_state F.meaning self.old).next (schedule_state F.meaning self.old).last) result
+            (λ _. schedule_state F.meaning self.new ≡ withdrawn (schedule_state F.meaning self.old))
             (self.new ≡ self.old) }
     {
         match &self.pending {

@@ -1,6 +1,6 @@
 -- The law of distance 3, from columns that are separate.
 use Rattle.std.proofs.Common.{◌≡◌, ℕ, zero, suc, ◌+◌, ◌^◌, ◌<◌, ◌≤◌, Bool, ◌≢◌, ◌⊎◌, List, ◌++◌, length, sym, refl, ◌∙◌, subst, inl, inr, ⊎_elim, arith, length-append}
-use Rattle.std.specs.List.{AllByRecursion as All}
+use Rattle.std.specs.List.{AllByRecursion}
 use Rattle.bits.specs.Bits.{weight}
 use Rattle.bits.specs.Columns.{picked, units}
 use Rattle.bits.proofs.Picks.{picked-one, picked-two}
@@ -32,6 +32,6 @@ module _ (k : Meaning) (distance : k.distance ≡ 3) (count : (m : ℕ) → 1 �
       some (subst (λ d. weight choice < d) distance few)
 
   pub lawful_at_3 : 3 ≤ k.width → k.width ≤ 64 → 1 ≤ k.reach → k.reach ≤ longest_reach
-      → ((m : ℕ) → 1 ≤ m → m ≤ k.reach → All (λ c. c < 2 ^ k.width) (k.columns m)) → Lawful k
+      → ((m : ℕ) → 1 ≤ m → m ≤ k.reach → AllByRecursion (λ c. c < 2 ^ k.width) (k.columns m)) → Lawful k
   lawful_at_3 wide narrow some_reach near below =
       record { wide = wide; narrow = narrow; some_reach = some_reach; near = near; tells = inl distance; count = count; below = below; law = law_at_3 }

@@ -1,7 +1,7 @@
 -- The law of distance 4, from separate columns each of which has an odd number of ones.
 use Rattle.std.proofs.Common.{◌≡◌, ℕ, zero, suc, ◌%◌, ◌^◌, ◌<◌, ◌≤◌, Bool, true, false, ◌≢◌, List, [], ◌∷◌, ◌++◌, length, ap, ◌∙◌, subst, inr, ⊎_elim, arith, length-append}
 use lib.Count.{ones}
-use Rattle.std.specs.List.{AllByRecursion as All}
+use Rattle.std.specs.List.{AllByRecursion}
 use Rattle.std.proofs.ByRecursion.{All-append}
 use Rattle.std.proofs.lemmas.Bool.{cases_lt}
 use Rattle.bits.specs.Bits.{weight}
@@ -13,7 +13,7 @@ use Rattle.family.proofs.Laws.{separate-law}
 
 -- each column has an odd number of ones
 abbrev pub Odd : List ℕ → Type 0
-Odd = All (λ c. ones c % 2 ≡ 1)
+Odd = AllByRecursion (λ c. ones c % 2 ≡ 1)
 
 pub odd_units : (n : ℕ) → Odd (units n)
 odd_units zero = tt
@@ -49,6 +49,6 @@ module _ (k : Meaning) (distance : k.distance ≡ 4) (count : (m : ℕ) → 1 �
       some (subst (λ d. weight choice < d) distance few)
 
   pub lawful_at_4 : 3 ≤ k.width → k.width ≤ 64 → 1 ≤ k.reach → k.reach ≤ longest_reach
-      → ((m : ℕ) → 1 ≤ m → m ≤ k.reach → All (λ c. c < 2 ^ k.width) (k.columns m)) → Lawful k
+      → ((m : ℕ) → 1 ≤ m → m ≤ k.reach → AllByRecursion (λ c. c < 2 ^ k.width) (k.columns m)) → Lawful k
   lawful_at_4 wide narrow some_reach near below =
       record { wide = wide; narrow = narrow; some_reach = some_reach; near = near; tells = inr distance; count = count; below = below; law = law_at_4 }

@@ -1,7 +1,7 @@
 -- Columns that a function makes one from another.
 use Rattle.std.proofs.Common.{◌≡◌, ℕ, zero, suc, ◌+◌, ◌-◌, ◌^◌, ◌<◌, ◌≤◌, Bool, ◌≢◌, List, ◌++◌, length, get_or, sym, refl, ap, ◌∙◌, suc-add, zero-add, add-one, arith, pow_pos}
 use lib.Count.{ones}
-use Rattle.std.specs.List.{AllByRecursion as All}
+use Rattle.std.specs.List.{AllByRecursion}
 use Rattle.bits.specs.Columns.{units}
 use Rattle.bits.proofs.UnitColumns.{length-units, get_or-units, ones_power, unit_from_ones}
 use Rattle.family.specs.Meaning.{Separate}
@@ -36,7 +36,7 @@ module _ (f : ℕ → ℕ) (n : ℕ) (stays : (a : ℕ) → a < 2 ^ n → f a < 
   iterate_stays zero a h = h
   iterate_stays (suc k) a h = iterate_stays k (f a) (stays a h)
 
-  pub orbit_below : (m a : ℕ) → a < 2 ^ n → All (λ c. c < 2 ^ n) (orbit f m a)
+  pub orbit_below : (m a : ℕ) → a < 2 ^ n → AllByRecursion (λ c. c < 2 ^ n) (orbit f m a)
   orbit_below zero a h = tt
   orbit_below (suc m) a h = (h, orbit_below m (f a) (stays a h))
 

@@ -1,6 +1,6 @@
 -- What an admitted key means, and the law that every key family keeps.
 use Rattle.std.specs.Prelude.{◌≡◌, ℕ, ◌+◌, ◌^◌, ◌<◌, ◌≤◌, Bool, ◌≢◌, ◌⊎◌, List, ◌++◌, length, slice_index}
-use Rattle.std.specs.List.{AllByRecursion as All}
+use Rattle.std.specs.List.{AllByRecursion}
 use Rattle.bits.specs.Bits.{bits, weight}
 use Rattle.bits.specs.Columns.{picked, units}
 
@@ -35,7 +35,7 @@ pub record Lawful (k : Meaning) : Type 0 where
   pub near : k.reach ≤ longest_reach
   pub tells : (k.distance ≡ 3) ⊎ (k.distance ≡ 4)
   pub count : (m : ℕ) → 1 ≤ m → m ≤ k.reach → length (k.columns m) ≡ m
-  pub below : (m : ℕ) → 1 ≤ m → m ≤ k.reach → All (λ c. c < 2 ^ k.width) (k.columns m)
+  pub below : (m : ℕ) → 1 ≤ m → m ≤ k.reach → AllByRecursion (λ c. c < 2 ^ k.width) (k.columns m)
   pub law : (m : ℕ) → 1 ≤ m → m ≤ k.reach → Law k m
 
 -- two keys are the same when their meanings are equal

@@ -1,4 +1,6 @@
 //! Key families: what an admitted key means, the law that it keeps, and the calls that every family answers.
+#![tactic(auto)]
+
 mod family;
 mod lengths;
 mod raw;

@@ -1,4 +1,6 @@
 //! The worked figures, as one theorem over one list.
+#![tactic(auto)]
+
 ghost use Rattle.figures.specs.Figures.{Stand, figures as the_figures};
 ghost use Rattle.std.specs.Prelude.{◌≡◌, length};
 

@@ -1,4 +1,6 @@
 //! From a raw key to the first opened frame: what an integrator writes, for a reader and for its door.
+#![tactic(auto)]
+
 use anyhow::anyhow;
 use crc::CrcKey;
 use ends::{DoorEnd, ReaderEnd};

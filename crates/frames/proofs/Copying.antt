@@ -2,7 +2,7 @@
 -- changed places, and the law says which syndromes few changes can have.
 use Rattle.std.proofs.Common.{◌≡◌, ℕ, ◌+◌, ◌-◌, ◌*◌, ◌/◌, ◌^◌, ◌<◌, ◌≤◌, Bool, true, false, ◌≢◌, List, ◌++◌, length, get_or, Some, None, sym, refl, ap, ◌∙◌, subst, ap₂, inl, inr, append_assoc, mod-eq_of_lt, arith, length-append}
 use lib.Bits.{bit_xor, xor_zero_r, xor_self, xor_comm, xor_assoc, xor_lt}
-use Rattle.std.specs.List.{AllByRecursion as All}
+use Rattle.std.specs.List.{AllByRecursion}
 use Rattle.std.proofs.lemmas.List.{get_or_append_left, get_or-append_right}
 use Rattle.std.proofs.ByRecursion.{All-take}
 use Rattle.std.proofs.lemmas.Bool.{true≢false, cases_lt, le-leb}
@@ -43,7 +43,7 @@ syndrome_of-whole n pad door slot L cs frame lf lc =
     (sym (picked-append text (tag_bits n frame) cs (units n) lt)
     ∙ ap (λ (r : List Bool). picked r (cs ++ units n)) (append_assoc (bound_word door slot) (bits (payload_of n frame)) (tag_bits n frame)))
 
-module _ (n pad door slot : ℕ) (cs payload : List ℕ) (hh : pad < 2 ^ n) (hc : All (λ c. c < 2 ^ n) cs) where
+module _ (n pad door slot : ℕ) (cs payload : List ℕ) (hh : pad < 2 ^ n) (hc : AllByRecursion (λ c. c < 2 ^ n) cs) where
   abbrev sent : List ℕ
   sent = frame_of n cs pad door slot payload
 

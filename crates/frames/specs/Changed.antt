@@ -1,6 +1,6 @@
 -- What changed bits do: a frame was sealed, and another of its length arrives for the same slot at the same door.
 use Rattle.std.specs.Prelude.{◌≡◌, ℕ, ◌+◌, ◌^◌, ◌<◌, ◌≤◌, Bool, true, false, ◌≢◌, List, ◌++◌, length, take, Some, Option, slice_index_or}
-use Rattle.std.specs.List.{AllByRecursion as All}
+use Rattle.std.specs.List.{AllByRecursion}
 use Rattle.bits.specs.Bits.{Bytes, bits_of, weight}
 use Rattle.bits.specs.Changes.{changes}
 use Rattle.bits.specs.Columns.{picked, units}
@@ -41,7 +41,7 @@ pub record Shows (n D : ℕ) (payload arrived : List ℕ) (changed : List Bool) 
 abbrev pub FramesShow : Type 0
 FramesShow =
     (n D pad door slot : ℕ) (cs payload arrived : List ℕ)
-    → length cs ≡ text_size (length payload) → All (λ c. c < 2 ^ n) cs → Distant n cs D → pad < 2 ^ n
+    → length cs ≡ text_size (length payload) → AllByRecursion (λ c. c < 2 ^ n) cs → Distant n cs D → pad < 2 ^ n
     → Bytes payload → Bytes arrived → length arrived ≡ length payload + tag_size n
     → let sent = frame_of n cs pad door slot payload in
     Shows n D payload arrived (changed_places n sent arrived) (finding n cs (syndrome n cs pad door slot arrived))

@@ -1,5 +1,7 @@
 //! Frames under a key: a payload is sealed, a frame is opened. All work on bytes and buffers is here; which key governs, and
 //! which slots are spent, is the ends' to know.
+#![tactic(auto)]
+
 mod opening;
 mod reading;
 mod refusals;

@@ -29,9 +29,9 @@ fn examine<F: Family, P: PadSource>(
     room: usize,
     pads: &P,
 ) -> Result<Opened, OpenRefusal>
-    ensures { Answers open_refusal (frame_questions (meaning key.now) door allowance slot frame.now room (words pads.now)) result
-        (λ o. (o.len ≡ payload_size (meaning key.now).width frame.now)
-        × (o.mended ≡ place_under (meaning key.now) (word (words pads.now slot)) door slot frame.now)
+    ensures { Answers open_refusal (frame_questions (F.meaning key.now) door allowance slot frame.now room (P.words pads.now)) result
+        (λ o. (o.len ≡ payload_size (F.meaning key.now).width frame.now)
+        × (o.mended ≡ place_under (F.meaning key.now) (word (P.words pads.now slot)) door slot frame.now)
         × (o.len ≤ room) × (o.len ≤ length frame.now))
         (Unit {0}) }
 {
@@ -66,10 +66,10 @@ pub fn open_frame<F: Family, P: PadSource>(
     out: &mut [u8],
     pads: &P,
 ) -> Result<Opened, OpenRefusal>
-    ensures { Answers open_refusal (frame_questions (meaning key.now) door allowance slot frame.now (length out.old) (words pads.now)) result
-        (λ o. (o.len ≡ length (payload_under (meaning key.now) (word (words pads.now slot)) door slot frame.now))
-        × (o.mended ≡ place_under (meaning key.now) (word (words pads.now slot)) door slot frame.now)
-        × (out.new ≡ put_in_front (payload_under (meaning key.now) (word (words pads.now slot)) door slot frame.now) out.old))
+    ensures { Answers open_refusal (frame_questions (F.meaning key.now) door allowance slot frame.now (length out.old) (P.words pads.now)) result
+        (λ o. (o.len ≡ length (payload_under (F.meaning key.now) (word (P.words pads.now slot)) door slot frame.now))
+        × (o.mended ≡ place_under (F.meaning key.now) (word (P.words pads.now slot)) door slot frame.now)
+        × (out.new ≡ put_in_front (payload_under (F.meaning key.now) (word (P.words pads.now slot)) door slot frame.now) out.old))
         (out.new ≡ out.old) }
 {
     let opened = examine(key, door, allowance, slot, frame, out.len(), pads)?;

@@ -71,9 +71,9 @@ pub(crate) fn judge<F: Family>(
     len: usize,
     syndrome: u64,
 ) -> Result<Option<usize>, OpenRefusal>
-    requires { (len ≤ longest_payload) × (text_size len ≤ (meaning key.now).reach) }
-    ensures { Answers open_refusal (judge_questions allowance (finding (meaning key.now).width ((meaning key.now).columns (text_size len)) syndrome)) result
-        (λ o. o ≡ told_place (finding (meaning key.now).width ((meaning key.now).columns (text_size len)) syndrome) len)
+    requires { (len ≤ longest_payload) × (text_size len ≤ (F.meaning key.now).reach) }
+    ensures { Answers open_refusal (judge_questions allowance (finding (F.meaning key.now).width ((F.meaning key.now).columns (text_size len)) syndrome)) result
+        (λ o. o ≡ told_place (finding (F.meaning key.now).width ((F.meaning key.now).columns (text_size len)) syndrome) len)
         (Unit {0}) }
 {
     if syndrome == 0 {

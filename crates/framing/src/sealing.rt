@@ -43,9 +43,9 @@ pub fn seal_frame<F: Family, P: PadSource>(
     out: &mut [u8],
     pads: &P,
 ) -> Result<usize, SealRefusal>
-    ensures { Answers seal_refusal (payload_questions (meaning key.now) slot payload.now out.old (words pads.now)) result
-        (λ size. (size ≡ length (frame_under (meaning key.now) (word (words pads.now slot)) door slot payload.now))
-        × (out.new ≡ put_in_front (frame_under (meaning key.now) (word (words pads.now slot)) door slot payload.now) out.old))
+    ensures { Answers seal_refusal (payload_questions (F.meaning key.now) slot payload.now out.old (P.words pads.now)) result
+        (λ size. (size ≡ length (frame_under (F.meaning key.now) (word (P.words pads.now slot)) door slot payload.now))
+        × (out.new ≡ put_in_front (frame_under (F.meaning key.now) (word (P.words pads.now slot)) door slot payload.now) out.old))
         (out.new ≡ out.old) }
 {
     let len = payload.len();

@@ -45,10 +45,10 @@ pub(crate) fn tag<F: Family>(
 ) -> Result<u64, OutOfReach>
     requires { length payload.now ≤ longest_payload }
     ensures { MatchResult result
-        (λ t. (text_size (length payload.now) ≤ (meaning key.now).reach)
-        × (t ≡ tag_of ((meaning key.now).columns (text_size (length payload.now))) (pad_of (meaning key.now).width word) door slot payload.now)
-        × (t < 2 ^ (meaning key.now).width))
-        (λ _. (text_size (length payload.now) ≤ (meaning key.now).reach → ⊥)) }
+        (λ t. (text_size (length payload.now) ≤ (F.meaning key.now).reach)
+        × (t ≡ tag_of ((F.meaning key.now).columns (text_size (length payload.now))) (pad_of (F.meaning key.now).width word) door slot payload.now)
+        × (t < 2 ^ (F.meaning key.now).width))
+        (λ _. (text_size (length payload.now) ≤ (F.meaning key.now).reach → ⊥)) }
 {
     let mut text = [0u8; 127];
     let len = payload.len();

@@ -2,7 +2,7 @@
 use Rattle.std.specs.Prelude.{◌≡◌, ℕ, ◌+◌, ◌*◌, ◌/◌, ◌%◌, ◌^◌, ◌<◌, ◌≤◌, Bool, true, false, cond, ◌≢◌, List, [], ◌∷◌, ◌++◌, map, length, Some, None, Option, ◌==◌, bit_xor, count_ones, slice_index, refl}
 use Rattle.std.proofs.Common.{sym, ap, ◌∙◌, ⊎_elim, arith, add-one, pow-suc}
 use Rattle.std.proofs.lemmas.Nat.{xor_block, ones_cat}
-use Rattle.std.specs.List.{AllByRecursion as All}
+use Rattle.std.specs.List.{AllByRecursion}
 use Rattle.std.proofs.lemmas.List.{length-map, get_or-map}
 use Rattle.std.proofs.lemmas.Bool.{cond-true, cond-false, eq-eqb, ne_eqb, cases_eq}
 use Rattle.bits.specs.Columns.{picked, place, one_on, units}
@@ -53,7 +53,7 @@ picked-evened (b ∷ bs) (c ∷ cs) =
     ap (λ x. bit_xor x (picked bs (map evened cs))) (evened-chosen b c) ∙ ap (bit_xor (evened (cond b c 0))) (picked-evened bs cs)
     ∙ sym (evened-xor (cond b c 0) (picked bs cs))
 
-pub all_evened : (n : ℕ) (cs : List ℕ) → All (λ c. c < 2 ^ n) cs → All (λ c. c < 2 ^ (n + 1)) (map evened cs)
+pub all_evened : (n : ℕ) (cs : List ℕ) → AllByRecursion (λ c. c < 2 ^ n) cs → AllByRecursion (λ c. c < 2 ^ (n + 1)) (map evened cs)
 all_evened n [] h = tt
 all_evened n (c ∷ cs) h = (evened-lt n c h.0, all_evened n cs h.1)
 

@@ -1,4 +1,6 @@
 //! Two key families over one linear feedback shift register: Toeplitz keys and MAC-C keys.
+#![tactic(auto)]
+
 mod digests;
 mod evening;
 mod keys;

@@ -1,5 +1,7 @@
 //! `linecheck`: reads a line file on standard input and prints what a door's end makes of it. All that is printed is what the one
 //! call `check_line` answers for the file's bytes.
+#![tactic(auto)]
+
 use linereport::check_line;
 use linewriter::PAGE_SIZE;
 use std::io::{Read, Write};

@@ -1,6 +1,6 @@
 -- Parts and the whole file, recovered from bytes that were read: the bytes are those that are written.
 use Rattle.std.proofs.Common.{◌≡◌, ℕ, zero, suc, ◌+◌, ◌^◌, ◌<◌, ◌≤◌, Bool, true, false, cond, eqb, leb, List, [], ◌∷◌, ◌++◌, length, Ok, Err, Result, sym, refl, ap, ◌∙◌, subst, append_assoc, arith}
-use Rattle.std.specs.List.{flat_map, AllByRecursion as All}
+use Rattle.std.specs.List.{flat_map, AllByRecursion}
 use Rattle.std.proofs.lemmas.List.{append-nil}
 use Rattle.std.proofs.lemmas.Bool.{cond-true, cond-false, eqb-true, leb-true}
 use Rattle.bits.specs.Bits.{Bytes}
@@ -120,7 +120,7 @@ finds_frame next at bs x u e =
 
 -- ---- a section behind its count
 
-finds_repeated : {Y : Type 0} (each : Part Y Contents) (written : Y → List ℕ) (Fit : Y → Type 0) → Finds each written Fit → (n : ℕ) → Finds (repeated each n) (flat_map written) (λ ys. (length ys ≡ n) × All Fit ys)
+finds_repeated : {Y : Type 0} (each : Part Y Contents) (written : Y → List ℕ) (Fit : Y → Type 0) → Finds each written Fit → (n : ℕ) → Finds (repeated each n) (flat_map written) (λ ys. (length ys ≡ n) × AllByRecursion Fit ys)
 unfolding repeated
 finds_repeated each written Fit w zero next at bs x u e = record { item = []; rest = bs; place = at; joins = refl; fits = (refl, tt); goes = e; rest_bytes = u }
 finds_repeated each written Fit w (suc n) next at bs x u e =
@@ -140,7 +140,7 @@ finds_repeated each written Fit w (suc n) next at bs x u e =
 abbrev counted : {Y : Type 0} → (Y → List ℕ) → List Y → List ℕ
 counted written ys = bytes_of 2 (length ys) ++ flat_map written ys
 
-finds_counted : {Y : Type 0} (most : ℕ) (each : Part Y Contents) (written : Y → List ℕ) (Fit : Y → Type 0) → Finds each written Fit → Finds (λ next. number_field 2 (up_to most) (λ count. repeated each count next)) (counted written) (λ ys. (length ys ≤ most) × All Fit ys)
+finds_counted : {Y : Type 0} (most : ℕ) (each : Part Y Contents) (written : Y → List ℕ) (Fit : Y → Type 0) → Finds each written Fit → Finds (λ next. number_field 2 (up_to most) (λ count. repeated each count next)) (counted written) (λ ys. (length ys ≤ most) × AllByRecursion Fit ys)
 finds_counted most each written Fit w next at bs x u e =
     let n = taken_number 2 (up_to most) (λ k. k) (λ count. repeated each count next) (up_to-back most) at bs x u e in
     let l = finds_repeated each written Fit w n.is next n.place n.rest x n.rest_bytes n.goes in

@@ -1,6 +1,6 @@
 -- Parts and the whole file, written: they are read back.
 use Rattle.std.proofs.Common.{◌≡◌, ℕ, ◌+◌, ◌^◌, ◌<◌, ◌≤◌, Bool, true, false, List, [], ◌∷◌, ◌++◌, length, Ok, sym, refl, subst, append_assoc, arith, lit<}
-use Rattle.std.specs.List.{flat_map, AllByRecursion as All}
+use Rattle.std.specs.List.{flat_map, AllByRecursion}
 use Rattle.std.proofs.lemmas.List.{append-nil}
 use Rattle.std.proofs.ByRecursion.{All-append}
 use Rattle.std.proofs.lemmas.Bool.{cond-true, le-leb}
@@ -82,7 +82,7 @@ writes-frame f next rest x h r =
 -- ---- a section behind its count
 
 -- so many of a part
-writes-repeated : {Y : Type 0} (each : Part Y Contents) (written : Y → List ℕ) (Fit : Y → Type 0) → Writes each written Fit → (ys : List Y) (next : List Y → Layout Contents) (rest : List ℕ) (x : Contents) → All Fit ys → Reads (next ys) rest x → Reads (repeated each (length ys) next) (flat_map written ys ++ rest) x
+writes-repeated : {Y : Type 0} (each : Part Y Contents) (written : Y → List ℕ) (Fit : Y → Type 0) → Writes each written Fit → (ys : List Y) (next : List Y → Layout Contents) (rest : List ℕ) (x : Contents) → AllByRecursion Fit ys → Reads (next ys) rest x → Reads (repeated each (length ys) next) (flat_map written ys ++ rest) x
 unfolding repeated
 writes-repeated each written Fit w [] next rest x f r = r
 writes-repeated each written Fit w (y ∷ ys) next rest x f r =
@@ -90,7 +90,7 @@ writes-repeated each written Fit w (y ∷ ys) next rest x f r =
     (w y (λ v. repeated each (length ys) (λ vs. next (v ∷ vs))) (flat_map written ys ++ rest) x f.0
     (writes-repeated each written Fit w ys (λ vs. next (y ∷ vs)) rest x f.1 r))
 
-writes-counted : {Y : Type 0} (most : ℕ) (each : Part Y Contents) (written : Y → List ℕ) (Fit : Y → Type 0) → most < 2 ^ 16 → Writes each written Fit → (ys : List Y) (next : List Y → Layout Contents) (rest : List ℕ) (x : Contents) → length ys ≤ most → All Fit ys → Reads (next ys) rest x → Reads (number_field 2 (up_to most) (λ count. repeated each count next)) (bytes_of 2 (length ys) ++ (flat_map written ys ++ rest)) x
+writes-counted : {Y : Type 0} (most : ℕ) (each : Part Y Contents) (written : Y → List ℕ) (Fit : Y → Type 0) → most < 2 ^ 16 → Writes each written Fit → (ys : List Y) (next : List Y → Layout Contents) (rest : List ℕ) (x : Contents) → length ys ≤ most → AllByRecursion Fit ys → Reads (next ys) rest x → Reads (number_field 2 (up_to most) (λ count. repeated each count next)) (bytes_of 2 (length ys) ++ (flat_map written ys ++ rest)) x
 writes-counted most each written Fit small w ys next rest x h f r =
     reads_number 2 (up_to most) (λ count. repeated each count next) (length ys) (length ys) (flat_map written ys ++ rest) x (omega arith) (cond-true _ _ _ (le-leb (length ys) most h))
     (writes-repeated each written Fit w ys next rest x f r)
@@ -110,7 +110,7 @@ reads_file c f =
 
 -- ---- it is made of bytes
 
-bytes_joined : {Y : Type 0} (written : Y → List ℕ) (Fit : Y → Type 0) → ((y : Y) → Fit y → Bytes (written y)) → (ys : List Y) → All Fit ys → Bytes (flat_map written ys)
+bytes_joined : {Y : Type 0} (written : Y → List ℕ) (Fit : Y → Type 0) → ((y : Y) → Fit y → Bytes (written y)) → (ys : List Y) → AllByRecursion Fit ys → Bytes (flat_map written ys)
 bytes_joined written Fit h [] f = tt
 bytes_joined written Fit h (y ∷ ys) f = All-append (λ b. b < 256) (written y) (flat_map written ys) (h y f.0) (bytes_joined written Fit h ys f.1)
 

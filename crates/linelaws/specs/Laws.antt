@@ -1,6 +1,6 @@
 -- What a well-formed file has, and the laws between its bytes and its reading.
 use Rattle.std.specs.Prelude.{◌≡◌, ℕ, ◌^◌, ◌<◌, ◌≤◌, List, ◌∷◌, ◌++◌, length, take}
-use Rattle.std.specs.List.{AllByRecursion as All}
+use Rattle.std.specs.List.{AllByRecursion}
 use Rattle.bits.specs.Bits.{Bytes}
 use Rattle.linefile.specs.declared.faults.Flaw.TheVariants.{CutShort, Trailing}
 use Rattle.linefile.specs.declared.key.KeyRecord.{KeyRecord}
@@ -32,9 +32,9 @@ pub record FitFrame (f : SentFrame) : Type 0 where
 pub record WellFormed (c : Contents) : Type 0 where
   pub key_fits : FitKey c.key
   pub words_count : length c.words ≤ most_pads
-  pub words_fit : All FitWord c.words
+  pub words_fit : AllByRecursion FitWord c.words
   pub frames_count : length c.frames ≤ most_frames
-  pub frames_fit : All FitFrame c.frames
+  pub frames_fit : AllByRecursion FitFrame c.frames
 
 -- ---- laws
 

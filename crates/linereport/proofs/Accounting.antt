@@ -1,6 +1,6 @@
 -- What the lines tell is what the account works out.
 use Rattle.std.proofs.Common.{◌≡◌, ℕ, suc, ◌+◌, List, [], ◌∷◌, ◌++◌, map, length, Some, None, sum_by, Option, sym, refl, ap, ◌∙◌, ap₂, arith, length-append}
-use Rattle.std.specs.List.{AllByRecursion as All}
+use Rattle.std.specs.List.{AllByRecursion}
 use Rattle.std.proofs.lemmas.List.Sums.{sum_by-cons}
 use Rattle.family.specs.Meaning.{Meaning}
 use Rattle.pads.specs.Sources.{book_words}
@@ -82,7 +82,7 @@ handed_follow pads a (f ∷ fs) =
     add_up n m a b c d e = omega arith
 
 -- an open answers as opens do
-all_of_open : (pads : Pads) (a : Account) (fs : List SentFrame) → All OfOpen (map (λ (s : Step). s.answer) (outcomes a (map (call_of pads) fs)))
+all_of_open : (pads : Pads) (a : Account) (fs : List SentFrame) → AllByRecursion OfOpen (map (λ (s : Step). s.answer) (outcomes a (map (call_of pads) fs)))
 all_of_open pads a [] = tt
 all_of_open pads a (f ∷ fs) =
     (step_of pads a f (λ (t : Step). OfOpen t.answer) (λ o e place. answers-as_opens o a e place room), all_of_open pads (outcome a (call_of pads f)).after fs)

@@ -22,10 +22,10 @@ fn open<F: Family + Drop, P: PadSource>(
     frame: Frame<'_>,
     pads: &P,
 ) -> Result<Opened, OpenRefusal>
-    requires { Reaches (door_state meaning door.old) }
-    ensures answer { open_answer result ≡ (frame_reply (words pads.now) (door_state meaning door.old) (sent_of frame.entry)).answer }
-    ensures after { door_state meaning door.new ≡ (frame_reply (words pads.now) (door_state meaning door.old) (sent_of frame.entry)).after }
-    ensures reaches { Reaches (door_state meaning door.new) }
+    requires { Reaches (door_state F.meaning door.old) }
+    ensures answer { open_answer result ≡ (frame_reply (P.words pads.now) (door_state F.meaning door.old) (sent_of frame.entry)).answer }
+    ensures after { door_state F.meaning door.new ≡ (frame_reply (P.words pads.now) (door_state F.meaning door.old) (sent_of frame.entry)).after }
+    ensures reaches { Reaches (door_state F.meaning door.new) }
 {
     let mut payload = [0u8; LONGEST_PAYLOAD];
     let opened = door.open(frame.slot, frame.bytes, &mut payload, pads)?;
@@ -38,8 +38,8 @@ pub(crate) fn tell_frames<F: Family + Drop, P: PadSource>(
     frames: FrameList<'_>,
     pads: &P,
 ) -> Page
-    requires { (Reaches (door_state meaning door.old)) × (length (frames_of frames) ≤ most_frames) }
-    ensures { written result ≡ frame_lines (frames_of frames.entry) (answers (words pads.now) (door_state meaning door.old) (frames_of frames.entry)) ++ summed_up (totals_of (answers (words pads.now) (door_state meaning door.old) (frames_of frames.entry))) }
+    requires { (Reaches (door_state F.meaning door.old)) × (length (frames_of frames) ≤ most_frames) }
+    ensures { written result ≡ frame_lines (frames_of frames.entry) (answers (P.words pads.now) (door_state F.meaning door.old) (frames_of frames.entry)) ++ summed_up (totals_of (answers (P.words pads.now) (door_state F.meaning door.old) (frames_of frames.entry))) }
 {
     let mut page = Page::blank();
     let mut totals = Totals::none();

@@ -69,7 +69,7 @@ impl From<DoorRefusal> for RefusedKey {
 // What a file's frames come to at a door's end with this key.
 fn tell_under<F: Family + Drop>(key: F, file: &LineFile<'_>) -> Result<Page, DoorRefusal>
     requires { length (frames_of file.now.frames) ≤ most_frames }
-    ensures { Answers door_refusal (door_questions (meaning key) file.now.key.allowance) result (λ page. written page ≡ page_under (meaning key) (contents_of file.now)) (Unit {0}) }
+    ensures { Answers door_refusal (door_questions (F.meaning key) file.now.key.allowance) result (λ page. written page ≡ page_under (F.meaning key) (contents_of file.now)) (Unit {0}) }
 {
     let mut door = DoorEnd::new(key, file.key.door, file.key.allowance)?;
     let pads = PadBook::new(file.pads.as_slice());

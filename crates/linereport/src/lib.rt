@@ -1,5 +1,7 @@
 //! The report on a line file: its first fault, or why its key is refused, or what a door's end makes of its frames. Nothing is
 //! allocated.
+#![tactic(auto)]
+
 mod check;
 mod frames;
 mod keys;

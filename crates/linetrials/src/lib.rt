@@ -1,4 +1,6 @@
 //! Trials of the line file and its report, on whole files.
+#![tactic(auto)]
+
 #[cfg(test)]
 mod files;
 #[cfg(test)]

@@ -1,6 +1,6 @@
 -- What opens answer, in the account's words, and how many of the answers are of each sort.
 use Rattle.std.specs.Prelude.{◌≡◌, ℕ, zero, suc, ◌+◌, ◌-◌, ◌^◌, min, List, length, Some, None, sum_by, Result}
-use Rattle.std.specs.List.{AllByRecursion as All}
+use Rattle.std.specs.List.{AllByRecursion}
 use Rattle.account.specs.Calls.{Answer, Wrote, Done, Refused}
 use Rattle.account.specs.Calls as account
 use Rattle.framing.specs.Refusals.{open_refusal}
@@ -66,5 +66,5 @@ counted totals answer = record {
 -- every answer of an open is counted once
 abbrev pub TotalsAddUp : Type 0
 TotalsAddUp =
-    (answers : List Answer) → All OfOpen answers →
+    (answers : List Answer) → AllByRecursion OfOpen answers →
     (totals_of answers).opened + (totals_of answers).mended + (totals_of answers).refused ≡ length answers

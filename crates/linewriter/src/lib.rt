@@ -1,4 +1,6 @@
 //! The lines of a report, written into a page of fixed size. Nothing here allocates, and a line is written whole or not at all.
+#![tactic(auto)]
+
 mod line;
 mod page;
 mod spelling;

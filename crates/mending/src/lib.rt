@@ -1,4 +1,6 @@
 //! One changed bit found by its syndrome, and put right.
+#![tactic(auto)]
+
 ghost use Rattle.bits.specs.Columns.{place, units as unit_columns};
 ghost use Rattle.family.specs.Admission.{length_questions, reach_number, text_questions};
 ghost use Rattle.family.specs.Meaning.{digest_of};
@@ -38,7 +40,7 @@ pub fn syndrome<F: Family>(
     tag: u64,
     pad: u64,
 ) -> Result<u64, OutOfReach>
-    ensures { Asked (text_questions (meaning key.now).reach m text.now) reach_number (λ s. s ≡ syndrome_of (meaning key.now) m text.now tag pad) result }
+    ensures { Asked (text_questions (F.meaning key.now).reach m text.now) reach_number (λ s. s ≡ syndrome_of (F.meaning key.now) m text.now tag pad) result }
 {
     let digest = key.digest(text, m)?;
     Ok(tag ^ pad ^ digest)
@@ -46,7 +48,7 @@ pub fn syndrome<F: Family>(
 
 // Looks for the syndrome among the columns of the text, then among the unit columns of the tag.
 pub fn find<F: Family>(key: &F, syndrome: u64, m: usize) -> Result<Finding, OutOfReach>
-    ensures { Asked (length_questions (meaning key.now).reach m) reach_number (λ f. f ≡ finding_of syndrome ((meaning key.now).columns m) (meaning key.now).width) result }
+    ensures { Asked (length_questions (F.meaning key.now).reach m) reach_number (λ f. f ≡ finding_of syndrome ((F.meaning key.now).columns m) (F.meaning key.now).width) result }
 {
     let column = key.locate(syndrome, m)?;
     if syndrome == 0 {
@@ -85,7 +87,7 @@ pub fn receive<F: Family>(
     tag: u64,
     pad: u64,
 ) -> Result<Arrival, OutOfReach>
-    ensures { Asked (text_questions (meaning key.now).reach m text.old) reach_number (λ a. Received (meaning key.now) m text.old tag pad a text.new) result }
+    ensures { Asked (text_questions (F.meaning key.now).reach m text.old) reach_number (λ a. Received (F.meaning key.now) m text.old tag pad a text.new) result }
 {
     let number = syndrome(key, text, m, tag, pad)?;
     let finding = find(key, number, m)?;

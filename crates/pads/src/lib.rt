@@ -2,6 +2,8 @@
 //!
 //! A source is asked for the word of a slot, and asking changes nothing. It answers with the word, or with the fault
 //! that carries the slot it does not cover. Two sources are here: a book of words, and the ChaCha20 key stream.
+#![tactic(auto)]
+
 mod book;
 mod cipher;
 mod pad;

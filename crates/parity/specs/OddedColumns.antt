@@ -4,7 +4,7 @@ use Rattle.std.proofs.Common.{sym, ap, ap₂, subst, ◌∙◌, ⊎_elim, arith,
 use Rattle.std.proofs.lemmas.Nat.{xor_block, ones_cat}
 use Rattle.std.specs.Int.Bits.{xor_zero_l}
 use Rattle.std.specs.Int.Count.{ones_step}
-use Rattle.std.specs.List.{AllByRecursion as All}
+use Rattle.std.specs.List.{AllByRecursion}
 use Rattle.std.proofs.lemmas.List.{length-map, get_or-map}
 use Rattle.std.proofs.lemmas.Bool.{cases_lt, cases_eq, eq-eqb, ne_eqb}
 use Rattle.bits.specs.Bits.{weight}
@@ -38,7 +38,7 @@ odded-lt : (n c : ℕ) → c < 2 ^ n → odded c < 2 ^ (n + 1)
 unfolding odded
 odded-lt n c h = subst (λ k. c * 2 + (count_ones c + 1) % 2 < 2 ^ k) (sym (add-one n)) (omega (arith, pow-suc 2 n))
 
-pub odded-below : (n : ℕ) (cs : List ℕ) → All (λ c. c < 2 ^ n) cs → All (λ c. c < 2 ^ (n + 1)) (map odded cs)
+pub odded-below : (n : ℕ) (cs : List ℕ) → AllByRecursion (λ c. c < 2 ^ n) cs → AllByRecursion (λ c. c < 2 ^ (n + 1)) (map odded cs)
 odded-below n [] h = tt
 odded-below n (c ∷ cs) h = (odded-lt n c h.0, odded-below n cs h.1)
 

@@ -25,7 +25,7 @@ fn answer<F: Family + Drop, G: Family + Drop, P: PadSource + Drop>(
     entry: Entry<F, G, P>,
 ) -> Entry<F, G, P>
     ensures becomes { Becomes entry result }
-    ensures kept { Kept (both (reader_state F.Family.meaning reader.old) (door_state G.Family.meaning door.old)) (asked F.Family.meaning G.Family.meaning words entry) (told_for entry result) (both (reader_state F.Family.meaning reader.new) (door_state G.Family.meaning door.new)) }
+    ensures kept { Kept (both (reader_state F.Family.meaning reader.old) (door_state G.Family.meaning door.old)) (asked F.Family.meaning G.Family.meaning P.words entry) (told_for entry result) (both (reader_state F.Family.meaning reader.new) (door_state G.Family.meaning door.new)) }
 {
     match entry {
         Entry::Asked(call) => {
@@ -47,7 +47,7 @@ pub fn run<F: Family + Drop, G: Family + Drop, P: PadSource + Drop>(
     entries: &mut [Entry<F, G, P>],
 )
     ensures each { AllBecome entries.old entries.new }
-    ensures kept { Kept (both (reader_state F.Family.meaning reader.old) (door_state G.Family.meaning door.old)) (all_asked F.Family.meaning G.Family.meaning words entries.old) (all_told entries.old entries.new) (both (reader_state F.Family.meaning reader.new) (door_state G.Family.meaning door.new)) }
+    ensures kept { Kept (both (reader_state F.Family.meaning reader.old) (door_state G.Family.meaning door.old)) (all_asked F.Family.meaning G.Family.meaning P.words entries.old) (all_told entries.old entries.new) (both (reader_state F.Family.meaning reader.new) (door_state G.Family.meaning door.new)) }
 {
     for entry in entries.iter_mut() {
         let was = std::mem::replace(entry, Entry::Blank);

@@ -11,7 +11,7 @@ use pads::PadSource;
 
 // What is handed in as bytes is bytes, and the keys of a family keep the law.
 pub fn look_at<F: Family, G: Family, P: PadSource>(call: &Call<F, G, P>)
-    ensures { Proper (call_of F.Family.meaning G.Family.meaning words call.now) }
+    ensures { Proper (call_of F.Family.meaning G.Family.meaning P.words call.now) }
 {
     match call {
         Call::Seal {
@@ -36,7 +36,7 @@ pub fn step<F: Family + Drop, G: Family + Drop, P: PadSource + Drop>(
     door: &mut DoorEnd<G>,
     call: Call<F, G, P>,
 ) -> Reply
-    ensures { Replies (both (reader_state F.Family.meaning reader.old) (door_state G.Family.meaning door.old)) (call_of F.Family.meaning G.Family.meaning words call) (returned result) (both (reader_state F.Family.meaning reader.new) (door_state G.Family.meaning door.new)) }
+    ensures { Replies (both (reader_state F.Family.meaning reader.old) (door_state G.Family.meaning door.old)) (call_of F.Family.meaning G.Family.meaning P.words call) (returned result) (both (reader_state F.Family.meaning reader.new) (door_state G.Family.meaning door.new)) }
 {
     match call {
         Call::Seal {

@@ -1,4 +1,6 @@
 //! Trials of the two ends at the edges of their rules.
+#![tactic(auto)]
+
 #[cfg(test)]
 mod tests {
     use crc::CrcKey;

@@ -2,6 +2,8 @@
 //!
 //! The table comes on standard input. What is printed is how many of its lines agree, and the first line that differs;
 //! a line that cannot be read is told with its number. The README beside this folder says how the table is made.
+#![tactic(auto)]
+
 mod compare;
 mod faults;
 mod hex;

@@ -1,4 +1,5 @@
 //! A demonstration: a MAC-C key at work, from raw key to mended bit. Each action is printed as it is done.
+#![tactic(auto)]
 
 mod day;
 mod full_size;

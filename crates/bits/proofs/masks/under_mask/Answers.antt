@@ -10,4 +10,4 @@ returns c =
     let bit : ℕ = bit_and c.args.bits 1 in
     let is : bit ≡ c.args.bits % 2 = and_mask c.args.bits 1 in
     let small : bit < 2 = omega arith in
-    masked word bit c.wrapping-neg.result (omega arith) small (omega arith) c.wrapping-neg.ensures ∙ ap (λ x. cond (eqb x 1) word 0) is
+    masked word bit c.wrapping_neg.result (omega arith) small (omega arith) c.wrapping_neg.ensures ∙ ap (λ x. cond (eqb x 1) word 0) is

@@ -8,20 +8,20 @@ use Rattle.bits.specs.Bits.{bits}
 use Rattle.bits.proofs.Runs.{length-bits, bits_at}
 use Rattle.bits.proofs.places.read_bit.Goals as goal
 
-pub returns-in-err-byte : goal.returns-in-err-byte
-returns-in-err-byte c =
+pub returns-in_err-byte : goal.returns-in_err-byte
+returns-in_err-byte c =
     let bytes = c.args.bytes.now in
     let place = c.args.place in
-    let past : length bytes ≤ place / 8 = ltb-false (place / 8) (length bytes) (sym c.in-err-byte.ensures.lookup.0) in
-    c.from-residual.ensures ∙ sym (slice_get_past (bits bytes) place (omega (arith, length-bits bytes)))
+    let past : length bytes ≤ place / 8 = ltb-false (place / 8) (length bytes) (sym c.in_err-byte.ensures.lookup.0) in
+    c.from_residual.ensures ∙ sym (slice_get_past (bits bytes) place (omega (arith, length-bits bytes)))
 
 pub returns : goal.returns
 returns c =
     let bytes = c.args.bytes.now in
     let place = c.args.place in
-    let byte = c.in-ok-byte.byte.now in
-    let within : place / 8 < length bytes = ltb-true (place / 8) (length bytes) (sym c.in-ok-byte.ensures.lookup.0) in
-    let is : byte ≡ get_or bytes (place / 8) 0 = c.in-ok-byte.ensures.lookup.1 ∙ get_or_default bytes (place / 8) byte 0 within in
+    let byte = c.in_ok-byte.byte.now in
+    let within : place / 8 < length bytes = ltb-true (place / 8) (length bytes) (sym c.in_ok-byte.ensures.lookup.0) in
+    let is : byte ≡ get_or bytes (place / 8) 0 = c.in_ok-byte.ensures.lookup.1 ∙ get_or_default bytes (place / 8) byte 0 within in
     ap (λ x. Some (eqb x 1)) (and_mask (byte / 2 ^ (7 - place % 8)) 1)
     ∙ ap (λ b. Some (eqb (b / 2 ^ (7 - place % 8) % 2) 1)) is
     ∙ ap Some (sym (bits_at bytes place within))

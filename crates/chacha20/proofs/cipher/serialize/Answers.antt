@@ -12,7 +12,7 @@ loop-i-preserved c =
     let i = c.loop-i.i in
     let n : (4 * i + 4) - 4 * i ≡ 4 = omega arith in
     let w =
-    ap₂ (put_mid (4 * i) ((4 * i + 4) - 4 * i)) c.loop-i.invariant.0 (c.copy-from-slice.ensures.after ∙ c.to-le-bytes.ensures)
+    ap₂ (put_mid (4 * i) ((4 * i + 4) - 4 * i)) c.loop-i.invariant.0 (c.copy_from_slice.ensures.after ∙ c.to_le_bytes.ensures)
     ∙ written-more i ((4 * i + 4) - 4 * i) c.args.state.now (replicate 64 0) (omega arith) n in
     (w, ap length w ∙ length-written (i + 1) c.args.state.now (replicate 64 0) (omega arith) (omega arith))
 

@@ -7,8 +7,8 @@ pub returns-then-word-width-ne0 : goal.returns-then-word-width-ne0
 returns-then-word-width-ne0 c =
     let small : c.args.width ≤ 64 = omega arith in
     let above : 0 < c.args.width = omega arith in (
-      spare_ones c.args.width c.args.frame.now c.args.room c.tag-bytes-size.result c.read-tag-word.result small above
-          c.tag-bytes-size.ensures.sized c.hold-bytes.ensures c.if-all-size.false c.if-all-size-2.false c.read-tag-word.ensures c.if-word-width-ne0.true,
+      spare_ones c.args.width c.args.frame.now c.args.room c.tag_bytes-size.result c.read_tag-word.result small above
+          c.tag_bytes-size.ensures.sized c.hold_bytes.ensures c.if-all-size.false c.if-all-size-2.false c.read_tag-word.ensures c.if-word-width-ne0.true,
       tt,
     )
 
@@ -16,8 +16,8 @@ pub returns-then-room-len : goal.returns-then-room-len
 returns-then-room-len c =
     let small : c.args.width ≤ 64 = omega arith in
     let above : 0 < c.args.width = omega arith in (
-      too_little_room c.args.width c.args.frame.now c.args.room c.tag-bytes-size.result c.read-tag-word.result small above
-          c.tag-bytes-size.ensures.sized c.hold-bytes.ensures c.if-all-size.false c.if-all-size-2.false c.read-tag-word.ensures c.if-word-width-ne0.false c.if-room-len.true,
+      too_little_room c.args.width c.args.frame.now c.args.room c.tag_bytes-size.result c.read_tag-word.result small above
+          c.tag_bytes-size.ensures.sized c.hold_bytes.ensures c.if-all-size.false c.if-all-size-2.false c.read_tag-word.ensures c.if-word-width-ne0.false c.if-room-len.true,
       tt,
     )
 
@@ -25,13 +25,13 @@ pub returns : goal.returns
 returns c =
     let small : c.args.width ≤ 64 = omega arith in
     let above : 0 < c.args.width = omega arith in
-    let es = c.tag-bytes-size.ensures.sized in (
-      all_read c.args.width c.args.frame.now c.args.room c.tag-bytes-size.result c.read-tag-word.result small above
-          es c.hold-bytes.ensures c.if-all-size.false c.if-all-size-2.false c.read-tag-word.ensures c.if-word-width-ne0.false c.if-room-len.false,
+    let es = c.tag_bytes-size.ensures.sized in (
+      all_read c.args.width c.args.frame.now c.args.room c.tag_bytes-size.result c.read_tag-word.result small above
+          es c.hold_bytes.ensures c.if-all-size.false c.if-all-size-2.false c.read_tag-word.ensures c.if-word-width-ne0.false c.if-room-len.false,
       (
         ap (λ (n : ℕ). length c.args.frame.now - n) es,
-        tag_is c.args.width c.args.frame.now c.args.room c.tag-bytes-size.result c.read-tag-word.result small above
-            es c.hold-bytes.ensures c.if-all-size.false c.if-all-size-2.false c.read-tag-word.ensures,
+        tag_is c.args.width c.args.frame.now c.args.room c.tag_bytes-size.result c.read_tag-word.result small above
+            es c.hold_bytes.ensures c.if-all-size.false c.if-all-size-2.false c.read_tag-word.ensures,
         omega arith,
         c.if-room-len.false,
       ),

@@ -5,5 +5,5 @@ use Rattle.framing.proofs.reading.read_tag.Goals as goal
 
 pub returns : goal.returns
 returns c =
-    tag_read c.args.bytes.now c.copy-from-slice.new.self (length c.args.bytes.now - 0) c.from-be-bytes.result
-    c.copy-from-slice.ensures.after c.from-be-bytes.ensures
+    tag_read c.args.bytes.now c.copy_from_slice.new.self (length c.args.bytes.now - 0) c.from_be_bytes.result
+    c.copy_from_slice.ensures.after c.from_be_bytes.ensures

@@ -24,44 +24,44 @@ pub returns-then-out-size : goal.returns-then-out-size
 returns-then-out-size g c =
     let k = g.F.Family.meaning c.args.key.now in
     let w = g.P.PadSource.words c.args.pads.now in (
-      no_room k c.args.slot c.args.payload.now c.args.out.now w c.if-len-eq0.false c.if-len-gt-LONGEST-PAYLOAD.false
+      no_room k c.args.slot c.args.payload.now c.args.out.now w c.if-len-eq0.false c.if-len-gt-LONGEST_PAYLOAD.false
           c.tag_bytes.result (c.tag_bytes.ensures.sized ∙ ap tag_size c.width-width.ensures) c.if-out-size.true,
       search rules,
     )
 
-pub returns-in-err-word : goal.returns-in-err-word
-returns-in-err-word g c =
+pub returns-in_err-word : goal.returns-in_err-word
+returns-in_err-word g c =
     let k = g.F.Family.meaning c.args.key.now in
     let w = g.P.PadSource.words c.args.pads.now in
-    let f = c.in-err-word.field-0.0 in
-    let h = no_word (w c.args.slot) c.args.slot f c.in-err-word.ensures in
+    let f = c.in_err-word.field-0.0 in
+    let h = no_word (w c.args.slot) c.args.slot f c.in_err-word.ensures in
     let v : first_refusal (payload_questions k c.args.slot c.args.payload.now c.args.out.now w) ≡ Some (seal_refusal (NoPad f)) =
-    no_pad k c.args.slot c.args.payload.now c.args.out.now w c.if-len-eq0.false c.if-len-gt-LONGEST-PAYLOAD.false
+    no_pad k c.args.slot c.args.payload.now c.args.out.now w c.if-len-eq0.false c.if-len-gt-LONGEST_PAYLOAD.false
     c.tag_bytes.result (c.tag_bytes.ensures.sized ∙ ap tag_size c.width-width.ensures) c.if-out-size.false h.0
     ∙ ap (λ (n : ℕ). Some (record { number = 14; slot = Some n })) (sym h.1) in
     search rules
 
-pub returns-in-err-tag : goal.returns-in-err-tag
-returns-in-err-tag g c =
+pub returns-in_err-tag : goal.returns-in_err-tag
+returns-in_err-tag g c =
     let k = g.F.Family.meaning c.args.key.now in
     let w = g.P.PadSource.words c.args.pads.now in
     let v : first_refusal (payload_questions k c.args.slot c.args.payload.now c.args.out.now w) ≡ Some (seal_refusal OutOfReach) =
-    no_reach k c.args.slot c.args.payload.now c.args.out.now w c.if-len-eq0.false c.if-len-gt-LONGEST-PAYLOAD.false
+    no_reach k c.args.slot c.args.payload.now c.args.out.now w c.if-len-eq0.false c.if-len-gt-LONGEST_PAYLOAD.false
     c.tag_bytes.result (c.tag_bytes.ensures.sized ∙ ap tag_size c.width-width.ensures) c.if-out-size.false
-    c.in-ok-word.word (a_word (w c.args.slot) c.args.slot c.in-ok-word.word c.in-ok-word.ensures) c.in-err-tag.ensures in
+    c.in_ok-word.word (a_word (w c.args.slot) c.args.slot c.in_ok-word.word c.in_ok-word.ensures) c.in_err-tag.ensures in
     search rules
 
 pub returns : goal.returns
 returns g c =
     let k = g.F.Family.meaning c.args.key.now in
     let w = g.P.PadSource.words c.args.pads.now in
-    let covered = a_word (w c.args.slot) c.args.slot c.in-ok-word.word c.in-ok-word.ensures in
-    let t = c.in-ok-tag.ensures in (
-      all_asked k c.args.slot c.args.payload.now c.args.out.now w c.if-len-eq0.false c.if-len-gt-LONGEST-PAYLOAD.false
-          c.tag_bytes.result (c.tag_bytes.ensures.sized ∙ ap tag_size c.width-width.ensures) c.if-out-size.false c.in-ok-word.word covered t.0,
+    let covered = a_word (w c.args.slot) c.args.slot c.in_ok-word.word c.in_ok-word.ensures in
+    let t = c.in_ok-tag.ensures in (
+      all_asked k c.args.slot c.args.payload.now c.args.out.now w c.if-len-eq0.false c.if-len-gt-LONGEST_PAYLOAD.false
+          c.tag_bytes.result (c.tag_bytes.ensures.sized ∙ ap tag_size c.width-width.ensures) c.if-out-size.false c.in_ok-word.word covered t.0,
       (
         frame_length k c.args.door c.args.slot c.args.payload.now (w c.args.slot) c.width-width.result c.tag_bytes.result c.width-width.ensures c.tag_bytes.ensures.sized,
-        frame_written k c.args.door c.args.slot c.args.payload.now (w c.args.slot) c.args.out.now _ c.width-width.result c.in-ok-tag.tag c.in-ok-word.word
-            c.width-width.ensures covered t.1 c.write-frame.ensures,
+        frame_written k c.args.door c.args.slot c.args.payload.now (w c.args.slot) c.args.out.now _ c.width-width.result c.in_ok-tag.tag c.in_ok-word.word
+            c.width-width.ensures covered t.1 c.write_frame.ensures,
       ),
     )

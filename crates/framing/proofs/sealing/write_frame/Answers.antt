@@ -8,4 +8,4 @@ use Rattle.framing.proofs.sealing.write_frame.Goals as goal
 pub returns : goal.returns
 returns c =
     frame-put c.args.payload.now c.args.out.now (bytes_of (tag_size c.args.width) (c.args.tag * 2 ^ spare c.args.width)) _ _
-    c.copy-from-slice.ensures.after c.write-tag.ensures
+    c.copy_from_slice.ensures.after c.write_tag.ensures

@@ -8,10 +8,10 @@ pub returns : goal.returns
 returns c =
     let width = c.args.width in
     let small : width ≤ 64 = omega arith in
-    let size = c.tag-bytes-size.result in
+    let size = c.tag_bytes-size.result in
     let shifted = c.args.tag * 2 ^ (64 - width) % 2 ^ 64 in
-    tag_put width c.args.tag size shifted _ c.args.out.now small c.tag-bytes-size.ensures.sized
+    tag_put width c.args.tag size shifted _ c.args.out.now small c.tag_bytes-size.ensures.sized
     (shl_exact {a = c.args.tag} width (64 - width) 64 c.requires.1.1.0 (omega arith))
-    (c.copy-from-slice.ensures.after
-    ∙ ap (λ (n : ℕ). take n c.to-be-bytes-bytes.result) (sub-zero size)
-    ∙ ap (take size) (c.to-be-bytes-bytes.ensures ∙ eight_bytes shifted))
+    (c.copy_from_slice.ensures.after
+    ∙ ap (λ (n : ℕ). take n c.to_be_bytes-bytes.result) (sub-zero size)
+    ∙ ap (take size) (c.to_be_bytes-bytes.ensures ∙ eight_bytes shifted))

@@ -14,8 +14,8 @@ loop-k-preserved c =
     let f = step raw.degree raw.coefficients in
     let l = c.loop-k in
     let bit : ℕ = c.args.byte / 2 ^ (l.k - 1) in
-    let chosen : c.under-mask-digest.result ≡ cond (eqb (bit % 2) 1) l.state 0 =
-    c.under-mask-digest.ensures ∙ ap (λ y. cond (eqb (y % 2) 1) l.state 0) c.from.ensures in
+    let chosen : c.under_mask-digest.result ≡ cond (eqb (bit % 2) 1) l.state 0 =
+    c.under_mask-digest.ensures ∙ ap (λ y. cond (eqb (y % 2) 1) l.state 0) c.from.ensures in
     λ rest.
     bit_absorbed f c.args.byte l.k l.left l.digest l.state _ _ rest (omega arith) (omega arith) c.advance-state.ensures.value
     (ap (bit_xor l.digest) chosen)

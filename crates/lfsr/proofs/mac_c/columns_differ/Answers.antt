@@ -8,6 +8,6 @@ pub returns : goal.returns
 returns c =
     let raw = c.args.register.now.raw in
     let cs = states raw raw.reach in (
-      (λ e. separate_evened (raw.degree + 1) cs (c.keeps-apart.ensures.0 e)),
-      (λ s. c.keeps-apart.ensures.1 (separate_from_evened (raw.degree + 1) cs s)),
+      (λ e. separate_evened (raw.degree + 1) cs (c.keeps_apart.ensures.0 e)),
+      (λ s. c.keeps_apart.ensures.1 (separate_from_evened (raw.degree + 1) cs s)),
     )

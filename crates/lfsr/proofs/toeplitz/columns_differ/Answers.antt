@@ -10,14 +10,14 @@ use Rattle.lfsr.specs.Register.{step}
 use Rattle.lfsr.specs.Stepping.{step-below}
 use Rattle.lfsr.proofs.toeplitz.columns_differ.Goals as goal
 
-pub returns-then-meets-unit : goal.returns-then-meets-unit
-returns-then-meets-unit c =
+pub returns-then-meets_unit : goal.returns-then-meets_unit
+returns-then-meets_unit c =
     let g = c.args.register.now in
     let n = g.raw.degree in
     let k = g.raw.coefficients in
     let cs = states g.raw g.raw.reach in
     let some : 1 ≤ n = omega arith in
-    let unit = c.meets-unit.ensures.0 c.if-meets-unit.true in
+    let unit = c.meets_unit.ensures.0 c.if-meets_unit.true in
     let low = orbit_below (step n k) n (λ a _. step-below n k a some) g.raw.reach g.raw.state g.started.1 in (
       (λ e. absurd (false≢true e)),
       (λ s. absurd (unit_separate n cs unit.0 unit.1 (All-get_or (λ x. x < 2 ^ n) cs unit.0 0 unit.1 low) unit.2 s)),
@@ -28,6 +28,6 @@ returns c =
     let g = c.args.register.now in
     let n = g.raw.degree in
     let cs = states g.raw g.raw.reach in (
-      (λ e. separate-from_units n cs (c.keeps-apart.ensures.0 e) (λ i h u. both_ways c.meets-unit.result c.if-meets-unit.false (c.meets-unit.ensures.1 (i, h, u)))),
-      (λ s. c.keeps-apart.ensures.1 (separate_left cs (units n) s)),
+      (λ e. separate-from_units n cs (c.keeps_apart.ensures.0 e) (λ i h u. both_ways c.meets_unit.result c.if-meets_unit.false (c.meets_unit.ensures.1 (i, h, u)))),
+      (λ s. c.keeps_apart.ensures.1 (separate_left cs (units n) s)),
     )

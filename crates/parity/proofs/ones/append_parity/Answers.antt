@@ -4,8 +4,8 @@ use lib.Bits.{bit_or, or_shifted}
 use lib.Count.{ones, ones-le}
 use Rattle.parity.proofs.ones.append_parity.Goals as goal
 
-pub overflow-add-digest : goal.overflow-add-digest
-overflow-add-digest c = record { fits = omega (arith, ones-le 63 c.args.digest c.requires.0) }
+pub overflow_add-digest : goal.overflow_add-digest
+overflow_add-digest c = record { fits = omega (arith, ones-le 63 c.args.digest c.requires.0) }
 
 pub returns : goal.returns
 returns c =

@@ -40,7 +40,7 @@ loop-place-preserved c =
     let m = c.args.m in
     let l = c.loop-place in
     let e : n + (m - l.place) + 1 ≡ n + (m - (l.place - 1)) = omega arith in (
-      iterate_more (times_x n g) (n + (m - l.place)) 1 l.column _ l.invariant.0 c.times-x-column.ensures ∙ ap (power n g) e,
+      iterate_more (times_x n g) (n + (m - l.place)) 1 l.column _ l.invariant.0 c.times_x-column.ensures ∙ ap (power n g) e,
       λ i h lt same. ⊎_elim
           (λ (here : i ≡ l.place - 1).
           let at : n + (m - l.place) ≡ n + (m - 1 - i) = omega arith in

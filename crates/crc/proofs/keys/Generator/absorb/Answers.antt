@@ -19,11 +19,11 @@ loop-place-preserved c rest =
     let l = c.loop-place in
     let p : ℕ = l.place in
     let byte : ℕ = c.args.byte in
-    let word : c.under-mask.result ≡ cond (eqb (byte / 2 ^ (7 - p) % 2) 1) raw.coefficients 0 =
-    c.under-mask.ensures ∙ ap (λ y. cond (eqb (y % 2) 1) raw.coefficients 0) c.from-bit.ensures in
+    let word : c.under_mask.result ≡ cond (eqb (byte / 2 ^ (7 - p) % 2) 1) raw.coefficients 0 =
+    c.under_mask.ensures ∙ ap (λ y. cond (eqb (y % 2) 1) raw.coefficients 0) c.from-bit.ensures in
     let fewer : c.args.left - (p + 1) ≡ c.args.left - p - 1 = omega arith in
-    ap₂ (λ x y. completed raw.degree raw.coefficients (bit_xor x c.under-mask.result) y (bits_of (8 - (p + 1)) byte ++ rest)) c.times_x.ensures fewer
-    ∙ place-completed raw.degree raw.coefficients byte p (c.args.left - p) l.digest c.under-mask.result rest
+    ap₂ (λ x y. completed raw.degree raw.coefficients (bit_xor x c.under_mask.result) y (bits_of (8 - (p + 1)) byte ++ rest)) c.times_x.ensures fewer
+    ∙ place-completed raw.degree raw.coefficients byte p (c.args.left - p) l.digest c.under_mask.result rest
     (omega arith) (omega arith) (omega arith) word
     ∙ l.invariant rest
 

@@ -20,7 +20,7 @@ loop-byte-preserved c =
     let rest = bits (drop (l.byte-index + 1) text) in (
       omega arith,
       omega arith,
-      ap (λ x. completed raw.degree raw.coefficients c.absorb-digest.result x rest) c.saturating-sub-left.ensures
+      ap (λ x. completed raw.degree raw.coefficients c.absorb-digest.result x rest) c.saturating_sub-left.ensures
           ∙ c.absorb-digest.ensures rest ∙ sym (at_drop_more left text l.byte-index 0 (omega arith)) ∙ l.invariant.2,
     )
 

@@ -13,9 +13,9 @@ pub returns-then-power-eq1 : goal.returns-then-power-eq1
 returns-then-power-eq1 c =
     let raw = c.args.self.now.raw in
     let l = c.loop-exponent in
-    let e : ℕ = l.-exponent in
-    let here : c.times-x-power.result ≡ power raw.degree raw.coefficients (e - 1 + 1) =
-    iterate_more (times_x raw.degree raw.coefficients) (e - 1) 1 l.power _ l.invariant.0 c.times-x-power.ensures in
+    let e : ℕ = l._exponent in
+    let here : c.times_x-power.result ≡ power raw.degree raw.coefficients (e - 1 + 1) =
+    iterate_more (times_x raw.degree raw.coefficients) (e - 1) 1 l.power _ l.invariant.0 c.times_x-power.ensures in
     let at : e - 1 + 1 ≡ e = omega arith in
     let one : power raw.degree raw.coefficients e ≡ 1 = ap (power raw.degree raw.coefficients) (sym at) ∙ sym here ∙ c.if-power-eq1.true in
     ((λ q. absurd (false≢true q)), (λ s. absurd (columns_meet raw.degree raw.coefficients raw.reach e (omega arith) (omega arith) (omega arith) one s)))
@@ -24,9 +24,9 @@ pub loop-exponent-preserved : goal.loop-exponent-preserved
 loop-exponent-preserved c =
     let raw = c.args.self.now.raw in
     let l = c.loop-exponent in
-    let e : ℕ = l.-exponent in
-    let here : c.times-x-power.result ≡ power raw.degree raw.coefficients (e - 1 + 1) =
-    iterate_more (times_x raw.degree raw.coefficients) (e - 1) 1 l.power _ l.invariant.0 c.times-x-power.ensures in
+    let e : ℕ = l._exponent in
+    let here : c.times_x-power.result ≡ power raw.degree raw.coefficients (e - 1 + 1) =
+    iterate_more (times_x raw.degree raw.coefficients) (e - 1) 1 l.power _ l.invariant.0 c.times_x-power.ensures in
     let next : e - 1 + 1 ≡ e + 1 - 1 = omega arith in
     let at : e - 1 + 1 ≡ e = omega arith in (
       here ∙ ap (power raw.degree raw.coefficients) next,

@@ -8,4 +8,4 @@ abbrev pub invariant-loop-exponent : goal.invariant-loop-exponent
 invariant-loop-exponent l =
     let n = l.self.raw.degree in
     let c = l.self.raw.coefficients in
-    (l.power ≡ power n c (l.-exponent - 1)) × ((j : ℕ) → j < l.-exponent → 0 < j → power n c j ≢ 1)
+    (l.power ≡ power n c (l._exponent - 1)) × ((j : ℕ) → j < l._exponent → 0 < j → power n c j ≢ 1)

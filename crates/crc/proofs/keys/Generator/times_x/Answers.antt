@@ -6,4 +6,4 @@ use Rattle.crc.proofs.keys.Generator.times_x.Goals as goal
 pub returns : goal.returns
 returns c =
     let raw = c.args.self.now.raw in
-    times_x-masked raw.degree raw.coefficients c.args.a _ (omega arith) (omega arith) c.under-mask.ensures
+    times_x-masked raw.degree raw.coefficients c.args.a _ (omega arith) (omega arith) c.under_mask.ensures

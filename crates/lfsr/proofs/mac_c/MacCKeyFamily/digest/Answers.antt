@@ -9,8 +9,8 @@ use Rattle.lfsr.specs.EvenOnes.{picked-evened}
 use Rattle.lfsr.specs.Stepping.{step-below}
 use Rattle.lfsr.proofs.mac_c.MacCKeyFamily.digest.Goals as goal
 
-pub with-even-ones-requires : goal.with-even-ones-requires
-with-even-ones-requires c =
+pub with_even_ones-requires : goal.with_even_ones-requires
+with_even_ones-requires c =
     let g = c.args.self.now.register in
     let n = g.raw.degree in
     let k = g.raw.coefficients in
@@ -22,6 +22,6 @@ with-even-ones-requires c =
 pub returns : goal.returns
 returns c =
     let raw = c.args.self.now.register.raw in (
-      c.in-ok-check-text.ensures.0,
-      c.with-even-ones.ensures.value ∙ ap evened c.digest.ensures ∙ sym (picked-evened (bits c.args.text.now) (states raw c.args.m)),
+      c.in_ok-check_text.ensures.0,
+      c.with_even_ones.ensures.value ∙ ap evened c.digest.ensures ∙ sym (picked-evened (bits c.args.text.now) (states raw c.args.m)),
     )

@@ -13,7 +13,7 @@ returns-then-state-eq1 c =
     let f = step raw.degree raw.coefficients in
     let l = c.loop-place in
     let long = length_orbit f raw.reach raw.state in (
-      (λ _. (l.-place, omega arith, ap ones (get_or-orbit f raw.reach raw.state l.-place (omega arith) ∙ sym l.invariant.0) ∙ c.if-state-eq1.true)),
+      (λ _. (l._place, omega arith, ap ones (get_or-orbit f raw.reach raw.state l._place (omega arith) ∙ sym l.invariant.0) ∙ c.if-state-eq1.true)),
       (λ _. refl),
     )
 
@@ -22,7 +22,7 @@ loop-place-preserved c =
     let raw = c.args.self.now.raw in
     let f = step raw.degree raw.coefficients in
     let l = c.loop-place in (
-      iterate_more f l.-place raw.state _ _ l.invariant.0 c.advance-state.ensures.value,
+      iterate_more f l._place raw.state _ _ l.invariant.0 c.advance-state.ensures.value,
       below_more (λ j. ones (iterate f j raw.state) ≡ 1 → ⊥) _ l.invariant.1 (λ e. c.if-state-eq1.false (ap ones l.invariant.0 ∙ e)),
     )
 

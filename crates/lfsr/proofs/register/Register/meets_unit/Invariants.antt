@@ -9,4 +9,4 @@ use Rattle.lfsr.proofs.register.Register.meets_unit.Given as goal
 abbrev pub invariant-loop-place : goal.invariant-loop-place
 invariant-loop-place l =
     let f = step l.self.raw.degree l.self.raw.coefficients in
-    (l.state ≡ iterate f l.-place l.self.raw.state) × ((j : ℕ) → j < l.-place → ones (iterate f j l.self.raw.state) ≢ 1)
+    (l.state ≡ iterate f l._place l.self.raw.state) × ((j : ℕ) → j < l._place → ones (iterate f j l.self.raw.state) ≢ 1)

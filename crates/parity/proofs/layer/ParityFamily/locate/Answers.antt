@@ -13,7 +13,7 @@ returns-then-number-eq1 g c =
     let m = c.args.m in
     let x = c.args.number in
     let room : k.width ≤ widest_below = omega arith in
-    let found = c.in-ok-place.ensures in (
+    let found = c.in_ok-place.ensures in (
       ((found.0.0.0, reach_layered k m found.0.0.1), tt),
       found.1 ∙ place-odd x (k.columns m) c.if-number-eq1.true ∙ ap (λ (l : Meaning). place x (l.columns m)) (sym (layered-narrow k room)),
     )
@@ -24,7 +24,7 @@ returns-else-number-eq1 g c =
     let m = c.args.m in
     let x = c.args.number in
     let room : k.width ≤ widest_below = omega arith in
-    let found = c.in-ok-place.ensures in (
+    let found = c.in_ok-place.ensures in (
       ((found.0.0.0, reach_layered k m found.0.0.1), tt),
       place-even x (k.columns m) c.if-number-eq1.false ∙ ap (λ (l : Meaning). place x (l.columns m)) (sym (layered-narrow k room)),
     )
