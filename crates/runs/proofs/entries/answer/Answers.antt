@@ -20,7 +20,7 @@ returns-in-Asked g c =
     record {
       becomes = subst (λ (x : Entry _ _ _). Becomes x (Told c.step.result)) (sym c.in-Asked.is) (c.step.result, refl);
       kept = subst (λ (x : Entry _ _ _). Kept found (asked m m' w x) (told x (Told c.step.result)) left) (sym c.in-Asked.is)
-          (in_sequence.one found left (call_of m m' w c.in-Asked.call) (returned c.step.result) c.look-at.ensures c.step.ensures);
+          (in_sequence.one found left (call_of m m' w c.in-Asked.call) (returned c.step.result) c.look_at.ensures c.step.ensures);
     }
 
 pub returns-in-Told : goal.returns-in-Told

@@ -14,15 +14,15 @@ same_from_decides xs ys r h = search (rules, bytes_eq-Decides)
 pub returns-in-Block : goal.returns-in-Block
 returns-in-Block c =
     let e = c.args.entry.now in
-    let told = same_from_decides _ _ _ (slice_eq-Decides Decides-eqb _ _ _ c.eq.ensures) in
+    let told = same_from_decides c.block.result c.in-Block.expected c.eq.result (slice_eq-Decides Decides-eqb c.block.result c.in-Block.expected c.eq.result c.eq.ensures) in
     let P : Expected → Type 0 = λ x. Ok c.eq.result ≡ agreement_on x e.key e.nonce e.counter in
     subst P (sym c.in-Block.is) (ap Ok (told ∙ ap (λ bs. bytes_eq bs c.in-Block.expected) c.block.ensures))
 
 pub returns-in-Word : goal.returns-in-Word
 returns-in-Word c =
     let e = c.args.entry.now in
-    let P : Expected → Type 0 = λ x. c.word-agrees.result ≡ agreement_on x e.key e.nonce e.counter in
+    let P : Expected → Type 0 = λ x. c.word_agrees.result ≡ agreement_on x e.key e.nonce e.counter in
     subst P (sym c.in-Word.is)
-    (c.word-agrees.ensures
+    (c.word_agrees.ensures
     ∙ ap₂ (λ k n. agreement (cipher_words k n e.counter) e.counter c.in-Word.expected)
     c.new.ensures.key c.new.ensures.nonce)
