@@ -12,7 +12,7 @@ ghost use Rattle.linereport.specs.Report.{page_under};
 ghost use Rattle.linereport.specs.declared.keys.RefusedKey.TheVariants.{NotAdmitted as not_admitted, TooWide as too_wide, NoEnd as no_end};
 ghost use Rattle.linewriter.specs.Pages.{written};
 
-use crate::frames::tell_frames;
+use crate::opens::tell_frames;
 use crc::CrcKey;
 use ends::{DoorEnd, DoorRefusal, NEEDED_REACH};
 use family::{AdmissionRefusal, Family, RawKey};

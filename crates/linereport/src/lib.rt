@@ -3,8 +3,8 @@
 #![tactic(auto)]
 
 mod check;
-mod frames;
 mod keys;
+mod opens;
 mod theorems;
 
 pub use check::{ReportRefusal, check_line};

@@ -5,4 +5,4 @@ use Rattle.linefile.proofs.fields.two.Goals as goal
 pub returns : goal.returns
 returns c =
     let h : 2 ≤ length c.args.left.bytes.now = search rules in
-    numbered 2 c.args.left.at c.args.left.bytes.now _ h (c.from-be-bytes.ensures ∙ sym (be2 c.args.left.bytes.now h))
+    numbered 2 c.args.left.at c.args.left.bytes.now _ h (c.from_be_bytes.ensures ∙ sym (be2 c.args.left.bytes.now h))

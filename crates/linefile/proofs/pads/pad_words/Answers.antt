@@ -10,15 +10,15 @@ use Rattle.linefile.proofs.pads.pad_words.Goals as goal
 pub eight-requires : goal.eight-requires
 eight-requires c = let k = c.loop-i.invariant.0.kept in omega arith
 
-pub returns-in-err-word : goal.returns-in-err-word
-returns-in-err-word c =
-    let p = err_from_is_err_and c.from-residual.result c.from-residual.ensures.1 in
-    rw (p.1, p.2) (so_faulty pad_word c.args.count c.args.left.at c.args.left.bytes.now _ _ _ _ _ c.loop-i.invariant.0 (omega arith) (word_cut _ _ _ c.in-err-word.ensures))
+pub returns-in_err-word : goal.returns-in_err-word
+returns-in_err-word c =
+    let p = err_from_is_err_and c.from_residual.result c.from_residual.ensures.1 in
+    rw (p.1, p.2) (so_faulty pad_word c.args.count c.args.left.at c.args.left.bytes.now _ _ _ _ _ c.loop-i.invariant.0 (omega arith) (word_cut _ _ _ c.in_err-word.ensures))
 
 pub loop-i-preserved : goal.loop-i-preserved
 loop-i-preserved c =
     let l = c.loop-i.invariant.1 in
-    (so_more pad_word c.args.count c.args.left.at c.args.left.bytes.now _ _ _ _ _ _ _ _ c.loop-i.invariant.0 (omega arith) (word-past _ _ _ _ _ c.in-ok-word.ensures) (take_more_set c.loop-i.words c.loop-i.i _ (omega arith)), length-set c.loop-i.words c.loop-i.i _ ∙ l)
+    (so_more pad_word c.args.count c.args.left.at c.args.left.bytes.now _ _ _ _ _ _ _ _ c.loop-i.invariant.0 (omega arith) (word-past _ _ _ _ _ c.in_ok-word.ensures) (take_more_set c.loop-i.words c.loop-i.i _ (omega arith)), length-set c.loop-i.words c.loop-i.i _ ∙ l)
 
 pub returns : goal.returns
 returns c =

@@ -7,6 +7,6 @@ use Rattle.linereport.proofs.check.check_line.Goals as goal
 pub returns : goal.returns
 returns c =
     record {
-      written = (c.as-slice.result.now, subst (λ t. Reports c.args.file.now t) (sym c.as-slice.ensures) c.report-page.ensures, c.put.ensures);
+      written = (c.as_slice.result.now, subst (λ t. Reports c.args.file.now t) (sym c.as_slice.ensures) c.report-page.ensures, c.put.ensures);
       accounted = lines_follow_the_account;
     }

@@ -8,32 +8,32 @@ use Rattle.lfsr.specs.Admitted.{toeplitz_key, mac_c_key}
 use Rattle.linereport.proofs.KeyTelling.{not_admitted, admitted}
 use Rattle.linereport.proofs.keys.tell_file.Goals as goal
 
-pub returns-in-err-admit : goal.returns-in-err-admit
-returns-in-err-admit c =
-    let p = err_from_is_err_and c.from-residual.result c.from-residual.ensures.1 in
-    rw (p.1, p.2) (not_admitted c.args.file.now.key Crc c.raw-key-raw.result _ c.in-Crc.is c.raw-key-raw.ensures c.in-err-admit.ensures.asked)
+pub returns-in_err-admit-in-Crc : goal.returns-in_err-admit-in-Crc
+returns-in_err-admit-in-Crc c =
+    let p = err_from_is_err_and c.from_residual.result c.from_residual.ensures.1 in
+    rw (p.1, p.2) (not_admitted c.args.file.now.key Crc c.raw_key-raw.result _ c.in-Crc.is c.raw_key-raw.ensures c.in_err-admit-in-Crc.ensures.asked)
 
-pub returns-in-err-admit-2 : goal.returns-in-err-admit-2
-returns-in-err-admit-2 c =
-    let p = err_from_is_err_and c.from-residual-in-err-admit-2.result c.from-residual-in-err-admit-2.ensures.1 in
-    rw (p.1, p.2) (not_admitted c.args.file.now.key Toeplitz c.raw-key-raw.result _ c.in-Toeplitz.is c.raw-key-raw.ensures c.in-err-admit-2.ensures)
+pub returns-in_err-admit-in-Toeplitz : goal.returns-in_err-admit-in-Toeplitz
+returns-in_err-admit-in-Toeplitz c =
+    let p = err_from_is_err_and c.from_residual-in_err-admit-in-Toeplitz.result c.from_residual-in_err-admit-in-Toeplitz.ensures.1 in
+    rw (p.1, p.2) (not_admitted c.args.file.now.key Toeplitz c.raw_key-raw.result _ c.in-Toeplitz.is c.raw_key-raw.ensures c.in_err-admit-in-Toeplitz.ensures)
 
-pub returns-in-err-admit-3 : goal.returns-in-err-admit-3
-returns-in-err-admit-3 c =
-    let p = err_from_is_err_and c.from-residual-in-err-admit-3.result c.from-residual-in-err-admit-3.ensures.1 in
-    rw (p.1, p.2) (not_admitted c.args.file.now.key MacC c.raw-key-raw.result _ c.in-MacC.is c.raw-key-raw.ensures c.in-err-admit-3.ensures)
+pub returns-in_err-admit-in-MacC : goal.returns-in_err-admit-in-MacC
+returns-in_err-admit-in-MacC c =
+    let p = err_from_is_err_and c.from_residual-in_err-admit-in-MacC.result c.from_residual-in_err-admit-in-MacC.ensures.1 in
+    rw (p.1, p.2) (not_admitted c.args.file.now.key MacC c.raw_key-raw.result _ c.in-MacC.is c.raw_key-raw.ensures c.in_err-admit-in-MacC.ensures)
 
-pub returns-in-ok-admit : goal.returns-in-ok-admit
-returns-in-ok-admit c =
-    let a = c.in-ok-admit.ensures.asked in
-    admitted c.args.file.now.key (contents_of c.args.file.now) Crc c.raw-key-raw.result (crc_key c.in-ok-admit.field-0) _ c.in-Crc.is c.raw-key-raw.ensures a.0 a.1 c.tell-laid.ensures
+pub returns-in_ok-admit-in-Crc : goal.returns-in_ok-admit-in-Crc
+returns-in_ok-admit-in-Crc c =
+    let a = c.in_ok-admit-in-Crc.ensures.asked in
+    admitted c.args.file.now.key (contents_of c.args.file.now) Crc c.raw_key-raw.result (crc_key c.in_ok-admit-in-Crc.field-0) _ c.in-Crc.is c.raw_key-raw.ensures a.0 a.1 c.tell_laid.ensures
 
-pub returns-in-ok-admit-2 : goal.returns-in-ok-admit-2
-returns-in-ok-admit-2 c =
-    let a = c.in-ok-admit-2.ensures in
-    admitted c.args.file.now.key (contents_of c.args.file.now) Toeplitz c.raw-key-raw.result (toeplitz_key c.in-ok-admit-2.field-0) _ c.in-Toeplitz.is c.raw-key-raw.ensures a.0 a.1 c.tell-laid-in-Toeplitz.ensures
+pub returns-in_ok-admit-in-Toeplitz : goal.returns-in_ok-admit-in-Toeplitz
+returns-in_ok-admit-in-Toeplitz c =
+    let a = c.in_ok-admit-in-Toeplitz.ensures in
+    admitted c.args.file.now.key (contents_of c.args.file.now) Toeplitz c.raw_key-raw.result (toeplitz_key c.in_ok-admit-in-Toeplitz.field-0) _ c.in-Toeplitz.is c.raw_key-raw.ensures a.0 a.1 c.tell_laid-in-Toeplitz.ensures
 
-pub returns-in-ok-admit-3 : goal.returns-in-ok-admit-3
-returns-in-ok-admit-3 c =
-    let a = c.in-ok-admit-3.ensures in
-    admitted c.args.file.now.key (contents_of c.args.file.now) MacC c.raw-key-raw.result (mac_c_key c.in-ok-admit-3.field-0) _ c.in-MacC.is c.raw-key-raw.ensures a.0 a.1 c.tell-laid-in-MacC.ensures
+pub returns-in_ok-admit-in-MacC : goal.returns-in_ok-admit-in-MacC
+returns-in_ok-admit-in-MacC c =
+    let a = c.in_ok-admit-in-MacC.ensures in
+    admitted c.args.file.now.key (contents_of c.args.file.now) MacC c.raw_key-raw.result (mac_c_key c.in_ok-admit-in-MacC.field-0) _ c.in-MacC.is c.raw_key-raw.ensures a.0 a.1 c.tell_laid-in-MacC.ensures

@@ -8,8 +8,8 @@ use Rattle.linewriter.proofs.spelling.figures.Goals as goal
 pub loop-rest-init : goal.loop-rest-init
 loop-rest-init c = (append-nil _, length-decimal-le 20 c.args.n (lit< tt) (omega arith) (omega arith), omega arith, refl, omega arith)
 
-pub overflow-sub-first : goal.overflow-sub-first
-overflow-sub-first c = omega (arith, decimal_nonempty c.loop-rest.rest (omega arith))
+pub overflow_sub-first : goal.overflow_sub-first
+overflow_sub-first c = omega (arith, decimal_nonempty c.loop-rest.rest (omega arith))
 
 pub loop-rest-preserved : goal.loop-rest-preserved
 loop-rest-preserved c =
@@ -24,8 +24,8 @@ loop-rest-preserved c =
       omega arith,
     )
 
-pub overflow-sub-first-2 : goal.overflow-sub-first-2
-overflow-sub-first-2 c = omega (arith, decimal_nonempty c.loop-rest.rest (omega arith))
+pub overflow_sub-first-2 : goal.overflow_sub-first-2
+overflow_sub-first-2 c = omega (arith, decimal_nonempty c.loop-rest.rest (omega arith))
 
 pub returns : goal.returns
 returns c =

@@ -6,11 +6,11 @@ use Rattle.linefile.proofs.frames.FrameList.split_first.Goals as goal
 pub returns-then-self-eq0 : goal.returns-then-self-eq0
 returns-then-self-eq0 c = ap (λ n. frames_in n c.args.self.bytes.now) c.if-self-eq0.true ∙ no_frames c.args.self.bytes.now
 
-pub returns-in-default : goal.returns-in-default
-returns-in-default c = frames_short c.args.self.count c.args.self.bytes.now (search rules)
+pub returns-in_default : goal.returns-in_default
+returns-in_default c = frames_short c.args.self.count c.args.self.bytes.now (search rules)
 
 pub returns : goal.returns
 returns c =
     let h : 5 ≤ length c.args.self.bytes.now = search rules in
     let some = c.if-self-eq0.false in
-    (split_frames c.args.self.count c.args.self.bytes.now _ _ some h c.from-be-bytes.ensures c.min-size.ensures, omega arith)
+    (split_frames c.args.self.count c.args.self.bytes.now _ _ some h c.from_be_bytes.ensures c.min-size.ensures, omega arith)

@@ -3,7 +3,7 @@ use Rattle.ends.specs.States.{door_state}
 use Rattle.linefile.specs.Parsed.{frames_of}
 use Rattle.linewriter.specs.Pages.{written}
 use Rattle.linereport.proofs.Telling.{SoFar}
-use Rattle.linereport.proofs.frames.tell_frames.Given as goal
+use Rattle.linereport.proofs.opens.tell_frames.Given as goal
 
 abbrev pub invariant-loop-frame : goal.invariant-loop-frame
 invariant-loop-frame g l =

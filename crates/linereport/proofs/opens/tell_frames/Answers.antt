@@ -8,7 +8,7 @@ use Rattle.linewriter.specs.declared.totals.Totals.{Totals}
 use Rattle.linewriter.specs.Pages.{written}
 use Rattle.linereport.specs.Report.{summed_up}
 use Rattle.linereport.proofs.Telling.{so_far_none, so_far_more, so_far_all, room-for_line, told-whole}
-use Rattle.linereport.proofs.frames.tell_frames.Goals as goal
+use Rattle.linereport.proofs.opens.tell_frames.Goals as goal
 
 pub loop-frame-init : goal.loop-frame-init
 loop-frame-init g c =
@@ -19,25 +19,25 @@ pub unreachable-requires : goal.unreachable-requires
 unreachable-requires g c =
     let room = room-for_line (g.P.PadSource.words c.args.pads.now) (door_state g.F.Family.meaning c.args.door.now) (frames_of c.args.frames) _ (sent_of c.in-Some.frame) (frames_of c.loop-frame.left) (frames_of c.in-Some.rest) _ _ _
     c.loop-frame.invariant c.in-Some.ensures.0 c.frame_line.ensures.short in
-    let full = c.in-default-frame-line.ensures.adds.1 in
+    let full = c.in_default-frame_line.ensures.adds.1 in
     omega (arith, room, full)
 
 pub loop-frame-preserved : goal.loop-frame-preserved
 loop-frame-preserved g c =
     so_far_more (g.P.PadSource.words c.args.pads.now) (door_state g.F.Family.meaning c.args.door.now) (frames_of c.args.frames)
     (door_state g.F.Family.meaning c.loop-frame.door) (sent_of c.in-Some.frame) (frames_of c.loop-frame.left) (frames_of c.in-Some.rest)
-    (written c.loop-frame.page) c.loop-frame.totals (open_answer c.open_answer.result) (door_state g.F.Family.meaning c.open_answer.new.door) _ _
-    c.loop-frame.invariant c.in-Some.ensures.0 c.open_answer.ensures.answer c.open_answer.ensures.after c.open_answer.ensures.reaches
+    (written c.loop-frame.page) c.loop-frame.totals (open_answer c.open-answer.result) (door_state g.F.Family.meaning c.open-answer.new.door) _ _
+    c.loop-frame.invariant c.in-Some.ensures.0 c.open-answer.ensures.answer c.open-answer.ensures.after c.open-answer.ensures.reaches
     c.in-Ok.ensures.adds c.frame_line.ensures.short c.count.ensures
 
-pub unreachable-requires-in-default-totals-line : goal.unreachable-requires-in-default-totals-line
-unreachable-requires-in-default-totals-line g c =
+pub unreachable-requires-in_default-totals_line : goal.unreachable-requires-in_default-totals_line
+unreachable-requires-in_default-totals_line g c =
     let room = c.loop-frame.invariant.short in
-    let full = c.in-default-totals-line.ensures.adds.1 in
+    let full = c.in_default-totals_line.ensures.adds.1 in
     omega (arith, room, full, c.totals_line.ensures.short)
 
 pub returns : goal.returns
 returns g c =
     told-whole (g.P.PadSource.words c.args.pads.now) (door_state g.F.Family.meaning c.args.door.now) (frames_of c.args.frames)
     (door_state g.F.Family.meaning c.loop-frame.door) (frames_of c.loop-frame.left) (written c.loop-frame.page) c.loop-frame.totals _
-    c.loop-frame.invariant c.in-default.ensures c.in-Ok-totals-line.ensures.adds
+    c.loop-frame.invariant c.in_default.ensures c.in-Ok-totals_line.ensures.adds
