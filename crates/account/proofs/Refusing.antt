@@ -2,7 +2,7 @@
 use Rattle.std.proofs.Common.{◌≡◌, ℕ, List, [], ◌∷◌, ◌++◌, Some, None, Option, refl, arith}
 use Rattle.family.specs.Meaning.{Meaning}
 use Rattle.account.specs.Questions.{Refusal, first_refusal}
-use Rattle.account.specs.Calls.{word, Side, Call, Seal, Open, Appoint, Strike, Withdraw, Refused}
+use Rattle.account.specs.Calls.{word, Side, Seal, Open, Appoint, Strike, Withdraw, Refused}
 use Rattle.account.specs.Keys.{next_key, appoint_questions, strike_questions, withdraw_questions}
 use Rattle.account.specs.Opening.{place_under}
 use Rattle.account.specs.Account.{EndKeys, SealedFrame, HandedOver, Account, Step, governs, keys_at, last_slot, sealed_entry, seals, handed_entry, opens, rekeys, RefusalsChangeNothing}

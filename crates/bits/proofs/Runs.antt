@@ -1,5 +1,5 @@
 -- The bits of numbers and bytes, one by one.
-use Rattle.std.proofs.Common.{◌≡◌, ℕ, zero, suc, ◌+◌, ◌-◌, ◌*◌, ◌/◌, ◌%◌, ◌^◌, ◌<◌, ◌≤◌, Bool, true, false, cond, not, eqb, List, [], ◌∷◌, ◌++◌, length, get_or, set, sym, refl, ap, ◌∙◌, subst, ap₂, append_assoc, le_of_suc-le-suc, mod-lt, mod-eq_of_lt, suc-add, zero-add, arith, length-append}
+use Rattle.std.proofs.Common.{◌≡◌, ℕ, zero, suc, ◌+◌, ◌-◌, ◌*◌, ◌/◌, ◌%◌, ◌^◌, ◌<◌, ◌≤◌, Bool, true, false, cond, eqb, List, [], ◌∷◌, ◌++◌, length, get_or, set, sym, refl, ap, ◌∙◌, subst, ap₂, append_assoc, le_of_suc-le-suc, mod-lt, mod-eq_of_lt, suc-add, zero-add, arith, length-append}
 use native.Mathlib.Nat.{suc_inj}
 use lib.Bits.{bit_xor, xor_shifted}
 use Rattle.std.proofs.lemmas.Nat.{pow_pos, mod-pow-add, field_of, shr_high, shr-shr, mod_low}
@@ -7,7 +7,7 @@ use Rattle.std.proofs.lemmas.List.{get_or_append_left, get_or-append-add}
 use Rattle.bits.specs.Bits.{Bytes, bits_of, bits, toggle, flip}
 use Rattle.bits.specs.Columns.{picked, units}
 use Rattle.bits.proofs.Picks.{picked-lt, picked-toggle, length-toggle}
-use Rattle.bits.proofs.UnitColumns.{length-units, get_or-units, units-below}
+use Rattle.bits.proofs.UnitColumns.{get_or-units, units-below}
 
 pub length-bits_of : (n x : ℕ) → length (bits_of n x) ≡ n
 unfolding bits_of

@@ -1,5 +1,5 @@
 -- Bits of numbers and of bytes. Bit 0 is the highest bit of the first byte.
-use Rattle.std.specs.Prelude.{◌≡◌, ℕ, zero, suc, ◌+◌, ◌-◌, ◌/◌, ◌%◌, ◌^◌, ◌<◌, Bool, true, false, cond, not, List, [], ◌∷◌, ◌++◌, ◌==◌, bit_xor, slice_index, slice_set}
+use Rattle.std.specs.Prelude.{ℕ, zero, suc, ◌+◌, ◌-◌, ◌/◌, ◌%◌, ◌^◌, ◌<◌, Bool, cond, not, List, [], ◌∷◌, ◌++◌, ◌==◌, bit_xor, slice_index, slice_set}
 use Rattle.std.specs.List.{AllByRecursion}
 
 -- numbers that are bytes

@@ -1,9 +1,9 @@
 -- The calls of an end as replies.
-use Rattle.std.proofs.Common.{◌≡◌, ℕ, ◌+◌, ◌<◌, ◌≤◌, ltb, leb, List, [], ◌∷◌, ◌++◌, length, Some, None, Ok, Err, Option, sym, refl, ap, ◌∙◌, ap₂, append-nil, arith, le-ltb, lt-ltb}
+use Rattle.std.proofs.Common.{◌≡◌, ℕ, ◌+◌, ◌<◌, ◌≤◌, ltb, leb, List, [], ◌∷◌, ◌++◌, length, Some, None, Ok, Err, Option, sym, ap, ◌∙◌, ap₂, append-nil, arith, le-ltb, lt-ltb}
 use Rattle.std.proofs.lemmas.Bool.{le-leb, leb-true, and_parts}
 use Rattle.family.specs.Meaning.{Meaning}
 use Rattle.frames.specs.Frames.{tag_size, text_size, payload_size}
-use Rattle.account.specs.Questions.{Refusal, Question, asks, first_refusal}
+use Rattle.account.specs.Questions.{Refusal, asks, first_refusal}
 use Rattle.account.specs.Calls.{Pads, word, Answer, Wrote}
 use Rattle.account.specs.Calls as account
 use Rattle.account.specs.Sealing.{pad_question, seal_questions, frame_under}

@@ -1,5 +1,5 @@
 -- Lists of questions, one after the other.
-use Rattle.std.proofs.Common.{ℕ, ◌⊎◌, List, [], ◌∷◌, ◌++◌, inl, inr, ⊎_elim}
+use Rattle.std.proofs.Common.{ℕ, List, [], ◌∷◌, ◌++◌, inl, inr, ⊎_elim}
 use Rattle.family.specs.Questions.{Question, AllYes, FirstNo}
 
 pub yes_append : (ps qs : List Question) → AllYes ps → AllYes qs → AllYes (ps ++ qs)

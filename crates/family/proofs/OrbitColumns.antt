@@ -1,5 +1,5 @@
 -- Columns that a function makes one from another.
-use Rattle.std.proofs.Common.{◌≡◌, ℕ, zero, suc, ◌+◌, ◌-◌, ◌^◌, ◌<◌, ◌≤◌, Bool, ◌≢◌, List, ◌++◌, length, get_or, sym, refl, ap, ◌∙◌, suc-add, zero-add, add-one, arith, pow_pos}
+use Rattle.std.proofs.Common.{◌≡◌, ℕ, zero, suc, ◌+◌, ◌-◌, ◌^◌, ◌<◌, ◌≤◌, ◌≢◌, List, ◌++◌, length, get_or, sym, refl, ap, ◌∙◌, suc-add, zero-add, add-one, arith, pow_pos}
 use lib.Count.{ones}
 use Rattle.std.specs.List.{AllByRecursion}
 use Rattle.bits.specs.Columns.{units}

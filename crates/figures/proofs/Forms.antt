@@ -1,5 +1,5 @@
 -- The numbers of the figures' raw keys are in their ranges, so that the columns decide.
-use Rattle.std.proofs.Common.{◌≡◌, ℕ, ◌<◌, ◌≤◌, true, false, List, ◌++◌, refl, inl, arith}
+use Rattle.std.proofs.Common.{◌≡◌, ℕ, ◌<◌, ◌≤◌, true, false, ◌++◌, refl, inl, arith}
 use Rattle.bits.specs.Columns.{units}
 use Rattle.family.specs.declared.raw.RawKey.{RawKey}
 use Rattle.family.specs.declared.raw.Start.{Start}

@@ -1,5 +1,5 @@
 -- One more bit of a text taken into a digest.
-use Rattle.std.proofs.Common.{◌≡◌, ℕ, zero, suc, ◌-◌, ◌/◌, ◌%◌, ◌^◌, ◌<◌, Bool, cond, eqb, List, ◌++◌, sym, refl, ap, ◌∙◌, ap₂, sub-one, arith}
+use Rattle.std.proofs.Common.{◌≡◌, ℕ, zero, suc, ◌-◌, ◌/◌, ◌%◌, ◌^◌, ◌<◌, Bool, cond, eqb, List, ◌++◌, sym, ap, ◌∙◌, ap₂, sub-one, arith}
 use lib.Bits.{bit_xor, xor_assoc}
 use Rattle.bits.specs.Bits.{bits_of}
 use Rattle.bits.specs.Columns.{picked}

@@ -1,7 +1,7 @@
 -- The coefficients in the opposite order, and the step as shift, mask and count of ones give it.
-use Rattle.std.proofs.Common.{◌≡◌, ℕ, zero, suc, ◌+◌, ◌-◌, ◌*◌, ◌/◌, ◌%◌, ◌^◌, ◌<◌, ◌≤◌, sym, refl, ap, ◌∙◌, subst, ap₂, add_assoc, mod-lt, mul_assoc, mul_comm, add-mul, suc-add, one-mul, pow-suc, zero-add, zero-mul, mul-one, div-one, one-add, arith, pow_pos, pow-add, shr-shr}
+use Rattle.std.proofs.Common.{◌≡◌, ℕ, zero, suc, ◌+◌, ◌-◌, ◌*◌, ◌/◌, ◌%◌, ◌^◌, ◌<◌, ◌≤◌, sym, ap, ◌∙◌, subst, ap₂, mod-lt, mul_assoc, mul_comm, add-mul, suc-add, one-mul, pow-suc, zero-add, zero-mul, div-one, one-add, arith, pow_pos, pow-add, shr-shr}
 use native.Mathlib.Nat.{mod-mod}
-use lib.Bits.{bit_and, bit_or, bit_xor, and_block, and_lt, and_mask, and_zero_r, or_shifted}
+use lib.Bits.{bit_and, bit_or, and_block, and_lt, and_mask, and_zero_r, or_shifted}
 use lib.Count.{ones, ones_cat}
 use lib.Pow.{split, high, mod-mod-pow}
 use Rattle.std.specs.Int.{reverse_bits_onto}

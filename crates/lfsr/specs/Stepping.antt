@@ -1,6 +1,6 @@
 -- The register's step: it stays within n bits, keeps different states different, and leaves zero where it is.
-use Rattle.std.specs.Prelude.{◌≡◌, ℕ, zero, suc, ◌+◌, ◌-◌, ◌*◌, ◌/◌, ◌%◌, ◌^◌, ◌<◌, ◌≤◌, min, List, [], ◌∷◌, ◌++◌, drop, ◌==◌, bit_xor, refl}
-use Rattle.std.proofs.Common.{sym, ap, ap₂, ◌∙◌, subst, arith, mod-lt, mod-eq_of_lt, mul-div_cancel, pow-suc, one-mul, zero-mul, zero-lt-suc, mul-zero, zero-add, div-one, one-add, add-one, pow_pos, shr_lt}
+use Rattle.std.specs.Prelude.{◌≡◌, ℕ, zero, suc, ◌+◌, ◌*◌, ◌/◌, ◌%◌, ◌^◌, ◌<◌, ◌≤◌, [], ◌∷◌, ◌++◌, drop, ◌==◌, bit_xor, refl}
+use Rattle.std.proofs.Common.{sym, ap, ap₂, ◌∙◌, subst, arith, mod-lt, mod-eq_of_lt, mul-div_cancel, pow-suc, one-mul, zero-mul, mul-zero, zero-add, div-one, one-add, add-one, pow_pos, shr_lt}
 use Rattle.std.proofs.Math.Nat.{mul-mod_left, zero-div, zero-mod}
 use Rattle.std.proofs.Math.Arith.{mod-mul}
 use Rattle.std.proofs.Math.Pow.{split, field, mod-mod-pow}

@@ -1,5 +1,5 @@
 -- What the lines tell is what the account works out.
-use Rattle.std.proofs.Common.{◌≡◌, ℕ, suc, ◌+◌, List, [], ◌∷◌, ◌++◌, map, length, Some, None, sum_by, Option, sym, refl, ap, ◌∙◌, ap₂, arith, length-append}
+use Rattle.std.proofs.Common.{◌≡◌, ℕ, suc, ◌+◌, List, [], ◌∷◌, map, length, Some, None, sum_by, Option, sym, refl, ap, ◌∙◌, ap₂, arith, length-append}
 use Rattle.std.specs.List.{AllByRecursion}
 use Rattle.std.proofs.lemmas.List.Sums.{sum_by-cons}
 use Rattle.family.specs.Meaning.{Meaning}
@@ -7,16 +7,16 @@ use Rattle.pads.specs.Sources.{book_words}
 use Rattle.account.specs.Questions.{Refusal, first_refusal}
 use Rattle.account.specs.Calls.{Pads, word, At-door, Call, Open, Answer}
 use Rattle.account.specs.Opening.{open_questions, finding_under, place_under}
-use Rattle.account.specs.Account.{HandedOver, Account, Step, governs, last_slot, handed_entry, opens, outcome, outcomes, account_after, Creations, created}
+use Rattle.account.specs.Account.{HandedOver, Account, Step, governs, last_slot, handed_entry, opens, outcome, outcomes, account_after, created}
 use Rattle.account.specs.Ends.{EndState, Replied, new_end, ends_of, reply}
 use Rattle.account.proofs.Following.{ends-follow}
-use Rattle.linefile.specs.File.{SentFrame, Contents}
+use Rattle.linefile.specs.File.{SentFrame}
 use Rattle.linewriter.specs.Counting.{OfOpen, counts_opened, counts_mended, totals_of}
 use Rattle.linewriter.proofs.Counts.{totals_add_up}
 use Rattle.linereport.specs.Keys.{record_meaning}
 use Rattle.linereport.specs.Frames.{room, frame_reply, answers}
 use Rattle.linereport.specs.Report.{answers_under}
-use Rattle.linereport.specs.Laws.{opens_of, DoorOf, FollowsTheAccount, LinesFollowTheAccount}
+use Rattle.linereport.specs.Laws.{opens_of, LinesFollowTheAccount}
 
 -- a frame as a call of a run
 abbrev call_of : Pads → SentFrame → Call

@@ -1,8 +1,8 @@
 -- A file under its key: which exit answers which questions.
-use Rattle.std.proofs.Common.{◌≡◌, ℕ, Bool, leb, List, [], ◌∷◌, ◌++◌, Some, None, Ok, Err, Result, sym, refl, ap, ◌∙◌, subst, ap₂, arith}
+use Rattle.std.proofs.Common.{◌≡◌, ℕ, leb, List, [], ◌∷◌, ◌++◌, Some, None, Ok, Err, Result, sym, refl, ◌∙◌, subst, ap₂, arith}
 use Rattle.family.specs.declared.raw.RawKey.{RawKey}
 use Rattle.family.specs.Meaning.{Meaning}
-use Rattle.family.specs.Questions.{Question, AllYes, FirstNo, Asked}
+use Rattle.family.specs.Questions.{AllYes, FirstNo, Asked}
 use Rattle.family.proofs.Asking.{yes_append, no_early, no_late}
 use Rattle.pads.specs.Sources.{book_words}
 use Rattle.account.specs.Questions as account

@@ -1,8 +1,8 @@
 -- Laws above the definition of the report.
-use Rattle.std.specs.Prelude.{◌≡◌, ℕ, ◌+◌, List, [], ◌∷◌, map, length}
+use Rattle.std.specs.Prelude.{◌≡◌, ℕ, ◌+◌, List, map, length}
 use Rattle.pads.specs.Sources.{book_words}
-use Rattle.account.specs.Calls.{Call, Open, Answer}
-use Rattle.account.specs.Account.{Account, Step, outcomes, account_after, Creations, created}
+use Rattle.account.specs.Calls.{Call, Open}
+use Rattle.account.specs.Account.{Step, outcomes, account_after, Creations, created}
 use Rattle.linefile.specs.File.{SentFrame, Contents}
 use Rattle.linewriter.specs.Counting.{totals_of}
 use Rattle.linereport.specs.Keys.{record_meaning}

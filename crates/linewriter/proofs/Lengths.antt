@@ -1,5 +1,5 @@
 -- How long the lines are, where each number that they tell fits 64 bits.
-use Rattle.std.proofs.Common.{◌≡◌, ℕ, ◌+◌, ◌^◌, ◌<◌, ◌≤◌, List, [], ◌∷◌, ◌++◌, length, Some, None, codes, decimal, sym, refl, ap, ◌∙◌, arith, lit<, length-append, rules}
+use Rattle.std.proofs.Common.{ℕ, ◌^◌, ◌<◌, ◌≤◌, length, Some, None, decimal, arith, lit<, length-append}
 use Rattle.std.proofs.lemmas.Fmt.{length-decimal-le}
 use Rattle.account.specs.Calls.{Answer, Wrote, Opened, Done, Refused}
 use Rattle.linewriter.specs.Lines.{file_line, key_line, frame_line, totals_line, TellsBelow}

@@ -1,6 +1,5 @@
 -- The lines of a report, byte for byte. Each ends with a line feed, and numbers are in base ten.
 use Rattle.std.specs.Prelude.{ℕ, ◌<◌, List, [], ◌++◌, Some, None, codes, decimal}
-use Rattle.account.specs.Questions.{Refusal}
 use Rattle.account.specs.Calls.{Answer, Wrote, Opened, Done, Refused}
 
 -- a file with a fault

@@ -1,10 +1,10 @@
 -- Single calls are runs of one.
-use Rattle.std.proofs.Common.{◌≡◌, sym, refl, ap}
+use Rattle.std.proofs.Common.{sym, refl, ap}
 use Rattle.account.specs.Calls.{At-reader, At-door, Seal, Open, Appoint, Strike, Withdraw}
-use Rattle.account.specs.Ends.{EndState, EndReply, Ends, from_reader, from_door}
+use Rattle.account.specs.Ends.{from_reader, from_door}
 use Rattle.account.proofs.Sequences.{in_sequence}
 use Rattle.runs.specs.Calls.{both}
-use Rattle.runs.specs.Single.{given, SingleCalls}
+use Rattle.runs.specs.Single.{SingleCalls}
 
 pub single_calls : SingleCalls
 single_calls =

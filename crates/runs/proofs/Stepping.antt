@@ -1,7 +1,7 @@
 -- One call that writes, from the end that it was made at to both ends.
 use Rattle.std.proofs.Common.{◌≡◌, ℕ, List, sym, ap, ◌∙◌, ap₂}
 use Rattle.account.specs.Calls.{Pads, Answer}
-use Rattle.account.specs.Ends.{EndState, EndReply, Ends, Replied, from_reader, from_door, seal_reply, open_reply}
+use Rattle.account.specs.Ends.{EndState, from_reader, from_door, seal_reply, open_reply}
 use Rattle.runs.specs.Calls.{both}
 
 module _ (answer : Answer) (slot : ℕ) (bytes bytes' buffer buffer' out out' : List ℕ) (pads : Pads)

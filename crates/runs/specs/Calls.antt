@@ -1,5 +1,5 @@
 -- The calls of a run and what they were answered, in the account's words.
-use Rattle.std.specs.Prelude.{◌≡◌, ℕ, List, [], vec_items, Option}
+use Rattle.std.specs.Prelude.{◌≡◌, ℕ, [], vec_items, Option}
 use Rattle.family.specs.Meaning.{Meaning}
 use Rattle.account.specs.Calls as account
 use Rattle.account.specs.Calls.{At-reader, At-door, Appoint, Strike, Withdraw, Answer, Wrote, Done}

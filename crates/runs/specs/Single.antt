@@ -9,7 +9,7 @@ use Rattle.account.specs.Keys.{key_questions, door_questions}
 use Rattle.account.specs.Calls as account
 use Rattle.account.specs.Calls.{Pads, At-reader, At-door, Seal, Open, Appoint, Strike, Withdraw}
 use Rattle.account.specs.Account.{Creations, account_after, created}
-use Rattle.account.specs.Ends.{EndState, EndReply, Ends, Reaches, new_end, ends_of, seal_reply, open_reply, appoint_reply, strike_reply, withdraw_reply}
+use Rattle.account.specs.Ends.{EndState, EndReply, Reaches, new_end, ends_of, seal_reply, open_reply, appoint_reply, strike_reply, withdraw_reply}
 use Rattle.account.specs.Promise.{Accepted}
 use Rattle.account.specs.Runs.{Returned, Kept}
 use Rattle.framing.specs.declared.refusals.SealRefusal.{SealRefusal}

@@ -1,10 +1,10 @@
 -- `flip_bit`: one byte of the slice changes, in one bit; past the end nothing does.
-use Rattle.std.proofs.Common.{◌≡◌, ◌-◌, ◌*◌, ◌/◌, ◌%◌, ◌^◌, ◌<◌, length, get_or, set, sym, ap, ◌∙◌, arith, rules}
+use Rattle.std.proofs.Common.{◌-◌, ◌/◌, ◌%◌, ◌^◌, ◌<◌, get_or, set, sym, ap, ◌∙◌, arith, rules}
 use lib.Bits.{bit_xor}
 use Rattle.std.proofs.lemmas.Nat.{one_shl}
 use Rattle.std.proofs.ByRecursion.{All-from_get_or}
 use Rattle.std.proofs.lemmas.List.{set_past}
-use Rattle.bits.specs.Bits.{Bytes, bits, flip}
+use Rattle.bits.specs.Bits.{Bytes, bits}
 use Rattle.bits.proofs.Runs.{length-bits, bits-flip, toggle-past}
 use Rattle.bits.proofs.places.flip_bit.Goals as goal
 

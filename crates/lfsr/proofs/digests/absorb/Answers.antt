@@ -1,5 +1,5 @@
 -- `absorb`: one bit more, or no bit left.
-use Rattle.std.proofs.Common.{◌≡◌, ℕ, ◌-◌, ◌/◌, ◌%◌, ◌^◌, cond, eqb, ◌++◌, sym, ap, ◌∙◌, arith}
+use Rattle.std.proofs.Common.{◌≡◌, ℕ, ◌-◌, ◌/◌, ◌%◌, ◌^◌, cond, eqb, ◌++◌, ap, ◌∙◌, arith}
 use lib.Bits.{bit_xor}
 use Rattle.bits.specs.Bits.{bits_of}
 use Rattle.bits.specs.Columns.{picked}

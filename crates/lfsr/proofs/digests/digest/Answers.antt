@@ -1,5 +1,5 @@
 -- `digest`: one byte more, and no byte left.
-use Rattle.std.proofs.Common.{◌≡◌, ℕ, ◌+◌, List, drop, sym, ◌∙◌, arith}
+use Rattle.std.proofs.Common.{ℕ, ◌+◌, List, drop, sym, ◌∙◌, arith}
 use lib.Bits.{xor_zero_r}
 use Rattle.std.proofs.lemmas.List.{at_drop_more, at_drop_all}
 use Rattle.bits.specs.Bits.{bits}

@@ -1,5 +1,5 @@
 -- `with_even_ones`: the shifted state and the parity of its ones stand side by side.
-use Rattle.std.proofs.Common.{◌≡◌, ℕ, ◌*◌, ◌%◌, ◌^◌, ◌<◌, ap, ◌∙◌, ap₂, mod-eq_of_lt, arith}
+use Rattle.std.proofs.Common.{◌≡◌, ◌*◌, ◌%◌, ◌^◌, ◌<◌, ap, ◌∙◌, ap₂, mod-eq_of_lt, arith}
 use lib.Bits.{bit_or, and_mask, or_shifted}
 use lib.Count.{ones}
 use Rattle.lfsr.specs.Keys.{evened}

@@ -1,5 +1,5 @@
 -- Toeplitz columns are separate just where the states are and none is a unit column.
-use Rattle.std.proofs.Common.{◌≡◌, ℕ, ◌^◌, ◌<◌, ◌≤◌, get_or, sym, refl, ◌∙◌, arith}
+use Rattle.std.proofs.Common.{◌^◌, ◌<◌, ◌≤◌, arith}
 use Rattle.std.proofs.ByRecursion.{All-get_or}
 use Rattle.std.proofs.lemmas.Bool.{false≢true, both_ways}
 use Rattle.bits.specs.Columns.{units}

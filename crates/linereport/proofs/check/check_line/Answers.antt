@@ -1,5 +1,5 @@
 -- What is written is the report, and its lines follow the account.
-use Rattle.std.proofs.Common.{◌≡◌, sym, subst}
+use Rattle.std.proofs.Common.{sym, subst}
 use Rattle.linereport.specs.Report.{Reports}
 use Rattle.linereport.proofs.Accounting.{lines_follow_the_account}
 use Rattle.linereport.proofs.check.check_line.Goals as goal

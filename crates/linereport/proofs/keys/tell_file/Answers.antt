@@ -1,5 +1,4 @@
 -- Each family's key is refused by its admission, or told of further.
-use Rattle.std.proofs.Common.{ap, ◌∙◌}
 use Rattle.std.proofs.lemmas.Result.{err_from_is_err_and}
 use Rattle.linefile.specs.declared.key.KeyFamily.TheVariants.{Crc, Toeplitz, MacC}
 use Rattle.linefile.specs.Parsed.{contents_of}

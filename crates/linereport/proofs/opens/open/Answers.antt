@@ -1,6 +1,6 @@
 -- A frame that is opened is answered as the door's end replies.
 use Rattle.std.proofs.Common.{◌≡◌, Err, sym, ap, ◌∙◌, subst, rules}
-use Rattle.account.specs.Ends.{EndState, EndReply, Reaches}
+use Rattle.account.specs.Ends.{EndReply, Reaches}
 use Rattle.ends.specs.States.{door_state}
 use Rattle.ends.proofs.Reach.{reaching_lasts}
 use Rattle.linewriter.specs.Counting.{open_answer}

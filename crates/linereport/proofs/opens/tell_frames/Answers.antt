@@ -1,13 +1,10 @@
 -- Every frame is told, and the page has room for all of them.
-use Rattle.std.proofs.Common.{◌≡◌, ℕ, List, ◌++◌, ap, ◌∙◌, arith}
-use Rattle.account.specs.Calls.{Answer}
+use Rattle.std.proofs.Common.{arith}
 use Rattle.ends.specs.States.{door_state}
 use Rattle.linefile.specs.Parsed.{frames_of, sent_of}
 use Rattle.linewriter.specs.Counting.{open_answer}
-use Rattle.linewriter.specs.declared.totals.Totals.{Totals}
 use Rattle.linewriter.specs.Pages.{written}
-use Rattle.linereport.specs.Report.{summed_up}
-use Rattle.linereport.proofs.Telling.{so_far_none, so_far_more, so_far_all, room-for_line, told-whole}
+use Rattle.linereport.proofs.Telling.{so_far_none, so_far_more, room-for_line, told-whole}
 use Rattle.linereport.proofs.opens.tell_frames.Goals as goal
 
 pub loop-frame-init : goal.loop-frame-init

@@ -1,5 +1,5 @@
 -- One entry: a call is a run of one, and an entry that asks for nothing is a run of none.
-use Rattle.std.proofs.Common.{◌≡◌, sym, refl, subst}
+use Rattle.std.proofs.Common.{sym, refl, subst}
 use Rattle.account.specs.Ends.{Ends}
 use Rattle.account.specs.Runs.{Kept}
 use Rattle.account.proofs.Sequences.{in_sequence}

@@ -1,5 +1,5 @@
 -- `run`: no entry answered, one more, and all.
-use Rattle.std.proofs.Common.{◌≡◌, ◌<◌, ◌≤◌, length, get_or, sym, ap, ◌∙◌, arith}
+use Rattle.std.proofs.Common.{◌<◌, ◌≤◌, length, get_or, sym, ap, ◌∙◌, arith}
 use Rattle.ends.specs.States.{reader_state, door_state}
 use Rattle.runs.specs.Calls.{both}
 use Rattle.runs.proofs.Answering.{none_yet, one_more, all_answered, all_became}

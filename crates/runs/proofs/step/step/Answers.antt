@@ -1,8 +1,8 @@
 -- One call: what the end replies is what the account's ends reply.
-use Rattle.std.proofs.Common.{◌≡◌, length, refl, ap, ◌∙◌}
+use Rattle.std.proofs.Common.{◌≡◌, length, ap, ◌∙◌}
 use Rattle.std.specs.Vec.{with_items}
 use Rattle.std.proofs.lemmas.List.{with_items_is}
-use Rattle.account.specs.Ends.{Ends, reply}
+use Rattle.account.specs.Ends.{reply}
 use Rattle.ends.specs.States.{reader_state, door_state}
 use Rattle.runs.specs.declared.calls.Call.{Call}
 use Rattle.runs.specs.Calls.{both, call_of}

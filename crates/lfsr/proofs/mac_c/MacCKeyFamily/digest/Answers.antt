@@ -1,5 +1,5 @@
 -- The digest of states, made even, is the digest of the columns.
-use Rattle.std.proofs.Common.{◌≡◌, ℕ, ◌^◌, ◌<◌, ◌≤◌, sym, ap, ◌∙◌, subst, lt_of_lt_of_le, arith, pow_mono}
+use Rattle.std.proofs.Common.{ℕ, ◌^◌, ◌<◌, ◌≤◌, sym, ap, ◌∙◌, subst, lt_of_lt_of_le, arith, pow_mono}
 use Rattle.bits.specs.Bits.{bits}
 use Rattle.bits.proofs.Picks.{picked-lt}
 use Rattle.family.proofs.OrbitColumns.{orbit_below}

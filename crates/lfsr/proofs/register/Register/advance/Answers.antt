@@ -1,5 +1,5 @@
 -- `advance`: shift, mask and the parity of the tapped bits give the step.
-use Rattle.std.proofs.Common.{◌≡◌, ℕ, ◌-◌, ◌*◌, ◌%◌, ◌^◌, ◌<◌, ◌≤◌, Bool, List, sym, ap, ◌∙◌, subst, arith}
+use Rattle.std.proofs.Common.{◌≡◌, ℕ, ◌-◌, ◌*◌, ◌%◌, ◌^◌, ◌<◌, ◌≤◌, sym, ap, ◌∙◌, subst, arith}
 use lib.Bits.{bit_and, bit_or, and_mask}
 use lib.Count.{ones}
 use Rattle.bits.specs.Bits.{bits_of}

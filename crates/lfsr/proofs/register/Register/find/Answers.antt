@@ -1,5 +1,5 @@
 -- `find`: the first state that is the number, or that none is.
-use Rattle.std.proofs.Common.{◌≡◌, ℕ, ◌+◌, ◌<◌, sym, ◌∙◌, arith, below_more}
+use Rattle.std.proofs.Common.{◌≡◌, ◌<◌, sym, ◌∙◌, arith, below_more}
 use Rattle.family.specs.Orbits.{iterate}
 use Rattle.family.proofs.OrbitColumns.{iterate_more, length_orbit, get_or-orbit}
 use Rattle.bits.proofs.Locating.{place-first, place_none}

@@ -1,5 +1,5 @@
 -- `keeps_apart`: the first state comes again, or all states are different.
-use Rattle.std.proofs.Common.{◌≡◌, ℕ, ◌+◌, ◌<◌, ◌≤◌, sym, refl, ◌∙◌, ⊎_elim, arith, below_more}
+use Rattle.std.proofs.Common.{◌≡◌, ◌<◌, ◌≤◌, sym, refl, ◌∙◌, ⊎_elim, arith, below_more}
 use Rattle.std.proofs.lemmas.Bool.{false≢true}
 use Rattle.family.specs.Orbits.{iterate}
 use Rattle.family.proofs.OrbitColumns.{iterate_more, separate_orbit, again_separate}

@@ -1,5 +1,5 @@
 -- `meets_unit`: a state has a single one, or none has.
-use Rattle.std.proofs.Common.{◌≡◌, ℕ, ◌+◌, ◌<◌, ◌≤◌, sym, refl, ap, ◌∙◌, arith, below_more}
+use Rattle.std.proofs.Common.{◌≡◌, ◌<◌, sym, refl, ap, ◌∙◌, arith, below_more}
 use lib.Count.{ones}
 use Rattle.std.proofs.lemmas.Bool.{false≢true}
 use Rattle.family.specs.Orbits.{iterate}
