@@ -4,5 +4,7 @@ pub mod Powers
 pub mod Horner
 pub mod Crc
 pub mod Admitted
-pub mod PowersLemmas
+-- Lemmas, of which nothing has to be believed: that every admitted key keeps the law, which its impl of `Family` names.
 pub mod TimesX
+pub mod PowersLemmas
+pub mod CrcLaw

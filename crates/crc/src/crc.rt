@@ -3,16 +3,10 @@ ghost use Rattle.std.specs.Prelude.{◌≡◌, ℕ, ◌+◌, ◌%◌, ◌^◌, �
 ghost use Rattle.bits.specs.Columns.{place, units};
 ghost use Rattle.crc.specs.Admitted.{crc_key};
 ghost use Rattle.crc.specs.Crc.{crc, crc_questions};
+ghost use Rattle.crc.specs.CrcLaw.{crc_lawful};
 ghost use Rattle.crc.specs.Powers.{PowersAreRemainders, crc_columns};
 ghost use Rattle.family.specs.Admission.{admission_number};
 ghost use Rattle.family.specs.Questions.{Asked};
-ghost use Rattle.std.proofs.Common.{⊎_elim, arith};
-ghost use Rattle.std.specs.List.{AllByRecursion};
-ghost use Rattle.std.proofs.lemmas.Bool.{cases_eq, cond-true, cond-false, eq-eqb, ne_eqb};
-ghost use Rattle.family.specs.Meaning.{Separate};
-ghost use Rattle.family.proofs.Laws.{lawful_at_3};
-ghost use Rattle.family.proofs.OddColumns.{lawful_at_4};
-ghost use Rattle.crc.specs.PowersLemmas.{length-falling, falling-below, falling-odd, columns_fewer};
 
 use crate::keys::{CrcKey, Generator};
 use family::{AdmissionRefusal, Family, OutOfReach, RawKey, Start, check_length, check_text};
@@ -52,23 +46,7 @@ impl CrcKey {
 impl Family for CrcKey {
     ghost meaning = { crc_key };
 
-    ghost lawful = { λ k.
-        let raw = k.generator.raw in
-        let n : ℕ = raw.degree in
-        let c : ℕ = raw.coefficients in
-        let count : (m : ℕ) → 1 ≤ m → m ≤ raw.reach → length (crc_columns n c m) ≡ m = λ m low high. length-falling n c n m in
-        let below : (m : ℕ) → 1 ≤ m → m ≤ raw.reach → AllByRecursion (λ x. x < 2 ^ n) (crc_columns n c m) = λ m low high. falling-below n c n m (omega arith) (omega arith) in
-        let separate : (m : ℕ) → 1 ≤ m → m ≤ raw.reach → Separate (crc_columns n c m ++ units n) =
-        λ m low high. columns_fewer n c m raw.reach (omega arith) high (k.nonzero, k.different) in
-        ⊎_elim
-        (λ (even : (count_ones c + 1) % 2 ≡ 0).
-        lawful_at_4 (crc raw) (cond-true ((count_ones c + 1) % 2 == 0) 4 3 (eq-eqb _ 0 even)) count separate
-        (λ m low high. falling-odd n c n m (omega arith) (omega arith) (omega arith))
-        (omega arith) (omega arith) (omega arith) (omega arith) below)
-        (λ (odd : (count_ones c + 1) % 2 ≡ 0 → ⊥).
-        lawful_at_3 (crc raw) (cond-false ((count_ones c + 1) % 2 == 0) 4 3 (ne_eqb _ 0 odd)) count separate
-        (omega arith) (omega arith) (omega arith) (omega arith) below)
-        (cases_eq ((count_ones c + 1) % 2) 0) };
+    ghost lawful = { crc_lawful };
 
     fn width(&self) -> u32 {
         self.generator.raw.degree

@@ -3,5 +3,7 @@ pub mod Register
 pub mod Keys
 pub mod Admitted
 pub mod Digests
+-- Lemmas, of which nothing has to be believed: that every admitted key keeps the law, which its impl of `Family` names.
 pub mod EvenOnes
 pub mod Stepping
+pub mod KeyLaws

@@ -5,14 +5,8 @@ ghost use Rattle.family.specs.Admission.{admission_number};
 ghost use Rattle.family.specs.Meaning.{Separate};
 ghost use Rattle.family.specs.Questions.{Asked};
 ghost use Rattle.lfsr.specs.Admitted.{mac_c_key};
+ghost use Rattle.lfsr.specs.KeyLaws.{mac_c_lawful};
 ghost use Rattle.lfsr.specs.Keys.{mac_c, mac_c_questions, states, evened};
-ghost use Rattle.std.proofs.Common.{sym, ap, ◌∙◌, arith};
-ghost use Rattle.std.proofs.lemmas.List.{length-map, get_or-map};
-ghost use Rattle.family.proofs.Laws.{lawful_at_3};
-ghost use Rattle.family.proofs.OrbitColumns.{length_orbit, get_or-orbit, orbit_below, separate-fewer};
-ghost use Rattle.lfsr.specs.Register.{step};
-ghost use Rattle.lfsr.specs.EvenOnes.{all_evened};
-ghost use Rattle.lfsr.specs.Stepping.{step-below};
 
 use crate::digests;
 use crate::evening::with_even_ones;
@@ -44,25 +38,7 @@ impl MacCKey {
 impl Family for MacCKey {
     ghost meaning = { mac_c_key };
 
-    ghost lawful = { λ k.
-        let g = k.register in
-        let raw = g.raw in
-        let n = raw.degree in
-        let f = step n raw.coefficients in
-        let some : 1 ≤ n = omega arith in
-        let long : (m : ℕ) → length (map evened (states raw m)) ≡ m = λ m. length-map (states raw m) evened ∙ length_orbit f m raw.state in
-        let at : (m i : ℕ) → i < m → slice_index (map evened (states raw m)) i ≡ evened (slice_index (states raw m) i) =
-        λ m i h. get_or-map evened (states raw m) i 0 0 (omega (arith, length_orbit f m raw.state)) in
-        lawful_at_3 (mac_c raw) refl
-        (λ m low high. long m)
-        (λ m low high. separate-fewer (n + 1) (map evened (states raw raw.reach)) (map evened (states raw m)) (omega (arith, long m, long raw.reach))
-        (λ i h.
-        let within : i < m = omega (arith, long m) in
-        let here : i < raw.reach = omega arith in
-        at m i within ∙ ap evened (get_or-orbit f m raw.state i within ∙ sym (get_or-orbit f raw.reach raw.state i here)) ∙ sym (at raw.reach i here))
-        (k.nonzero, k.different))
-        (omega arith) (omega arith) (omega arith) (omega arith)
-        (λ m low high. all_evened n (states raw m) (orbit_below f n (λ a _. step-below n raw.coefficients a some) m raw.state g.started.1)) };
+    ghost lawful = { mac_c_lawful };
 
     fn width(&self) -> u32 {
         self.register.raw.degree + 1

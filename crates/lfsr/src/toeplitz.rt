@@ -4,13 +4,9 @@ ghost use Rattle.family.specs.Admission.{admission_number};
 ghost use Rattle.family.specs.Meaning.{Separate};
 ghost use Rattle.family.specs.Questions.{Asked};
 ghost use Rattle.lfsr.specs.Admitted.{toeplitz_key};
+ghost use Rattle.lfsr.specs.KeyLaws.{toeplitz_lawful};
 ghost use Rattle.lfsr.specs.Keys.{toeplitz, toeplitz_questions, states};
 ghost use Rattle.std.specs.Prelude.{◌≡◌, ℕ, ◌<◌, ◌≤◌, ◌++◌, Decides, refl};
-ghost use Rattle.std.proofs.Common.{sym, ◌∙◌, arith};
-ghost use Rattle.family.proofs.Laws.{lawful_at_3};
-ghost use Rattle.family.proofs.OrbitColumns.{length_orbit, get_or-orbit, orbit_below, separate-fewer};
-ghost use Rattle.lfsr.specs.Register.{step};
-ghost use Rattle.lfsr.specs.Stepping.{step-below};
 
 use crate::digests;
 use crate::keys::ToeplitzKey;
@@ -43,20 +39,7 @@ impl ToeplitzKey {
 impl Family for ToeplitzKey {
     ghost meaning = { toeplitz_key };
 
-    ghost lawful = { λ k.
-        let g = k.register in
-        let raw = g.raw in
-        let n = raw.degree in
-        let f = step n raw.coefficients in
-        let some : 1 ≤ n = omega arith in
-        let long : (m : ℕ) → _ ≡ m = λ m. length_orbit f m raw.state in
-        lawful_at_3 (toeplitz raw) refl
-        (λ m low high. long m)
-        (λ m low high. separate-fewer n (states raw raw.reach) (states raw m) (omega (arith, long m, long raw.reach))
-        (λ i h. let within : i < m = omega (arith, long m) in get_or-orbit f m raw.state i within ∙ sym (get_or-orbit f raw.reach raw.state i (omega arith)))
-        (k.nonzero, k.different))
-        (omega arith) (omega arith) (omega arith) (omega arith)
-        (λ m low high. orbit_below f n (λ a _. step-below n raw.coefficients a some) m raw.state g.started.1) };
+    ghost lawful = { toeplitz_lawful };
 
     fn width(&self) -> u32 {
         self.register.raw.degree
