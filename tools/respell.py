@@ -21,6 +21,12 @@ TOKEN = re.compile(r"[^\s(){}\[\].,;:`\"|&*+<>=!?/]+")
 HEADS = {"length", "take", "drop", "cond"}
 # names that hold an older word of the library
 OWN = {"getD-units": "get_or-units", "getD-falling": "get_or-falling", "getD-orbit": "get_or-orbit"}
+# names that are no call of a word, and those that a declaration shares a line with or a pattern binds
+OWN |= {"TheBlock": "the_block", "Δ-parts": "Δ_parts", "pads-are-pads": "pads_are_pads", "pads-are_pads": "pads_are_pads"}
+OWN |= {"answers-as-opens": "answers_as_opens", "answers-as_opens": "answers_as_opens"}
+OWN |= {"At-reader": "AtReader", "At-door": "AtDoor", "Door-key": "DoorKey"}
+OWN |= {"in-the-tag": "in_the_tag", "rest-is": "rest_is", "in-tag": "in_tag", "now-text": "now_text"}
+OWN |= {"reader-meaning": "reader_meaning", "door-meaning": "door_meaning", "syndrome-of-whole": "syndrome_of-whole"}
 
 
 def files(root, *endings):
@@ -102,11 +108,9 @@ def renamings(root):
     kinds, library = declared(root), of_library()
     odd = {n for n in kinds if ("-" in n or (n[0].isupper() and "_" in n)) and "goal" not in kinds[n] and n not in library}
     words = set(HEADS) | {snake(n) for n, k in kinds.items() if "word" in k and not n[0].isupper()}
-    to = {}
-    for name in sorted(odd):
-        if name in OWN:
-            new = OWN[name]
-        elif name[0].isupper():
+    to = dict(OWN)
+    for name in sorted(odd - OWN.keys() - set(OWN.values())):
+        if name[0].isupper():
             new = camel(name)
         elif kinds[name] & {"word", "field"}:
             new = snake(name)

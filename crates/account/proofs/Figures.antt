@@ -10,4 +10,4 @@ use Rattle.account.specs.Figures.{FiguresStand}
 pub figures-stand : FiguresStand
 unfolding bits_of bound_word tag_size governing frame_under finding_under payload_under place_under
 figures-stand =
-    record { one_allowed = refl; in-the-tag = refl; none_allowed = refl; reader_created = refl; door_created = refl; door_refused = refl }
+    record { one_allowed = refl; in_the_tag = refl; none_allowed = refl; reader_created = refl; door_created = refl; door_refused = refl }

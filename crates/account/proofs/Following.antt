@@ -3,7 +3,7 @@ use Rattle.std.proofs.Common.{◌≡◌, ℕ, List, [], ◌∷◌, ◌++◌, map
 use Rattle.std.proofs.lemmas.List.{map_push}
 use Rattle.family.specs.Meaning.{Meaning}
 use Rattle.account.specs.Questions.{Refusal, first_refusal}
-use Rattle.account.specs.Calls.{word, At-reader, At-door, Seal, Open, Appoint, Strike, Withdraw, Wrote, Opened}
+use Rattle.account.specs.Calls.{word, AtReader, AtDoor, Seal, Open, Appoint, Strike, Withdraw, Wrote, Opened}
 use Rattle.account.specs.Keys.{Pending, next_key, appoint_questions, strike_questions, withdraw_questions}
 use Rattle.account.specs.Sealing.{seal_questions}
 use Rattle.account.specs.Opening.{open_questions, finding_under, place_under}
@@ -55,41 +55,41 @@ opening a e place buffer None =
 
 changing_reader : (a : Account) (current : Meaning) (next : Option Pending) (used : List Meaning) (o : Option Refusal)
     → from_reader (ends_of a) (changes_keys o (ends_of a).reader (with_keys (ends_of a).reader current next))
-    ≡ replied_by (rekeys o a At-reader (record { current = current; next = next; number = a.reader.number }) used)
+    ≡ replied_by (rekeys o a AtReader (record { current = current; next = next; number = a.reader.number }) used)
 changing_reader a current next used (Some r) = refl
 changing_reader a current next used None = refl
 
 changing_door : (a : Account) (current : Meaning) (next : Option Pending) (used : List Meaning) (o : Option Refusal)
     → from_door (ends_of a) (changes_keys o (ends_of a).door (with_keys (ends_of a).door current next))
-    ≡ replied_by (rekeys o a At-door (record { current = current; next = next; number = a.door.number }) used)
+    ≡ replied_by (rekeys o a AtDoor (record { current = current; next = next; number = a.door.number }) used)
 changing_door a current next used (Some r) = refl
 changing_door a current next used None = refl
 
 pub ends-follow : EndsFollow
 ends-follow a (Seal slot payload buffer pads) =
     sealing a (sealed_entry a slot payload (word (pads slot))) buffer
-    (first_refusal (seal_questions (last_slot a At-reader) slot (governs a.reader slot).width payload buffer pads))
+    (first_refusal (seal_questions (last_slot a AtReader) slot (governs a.reader slot).width payload buffer pads))
 ends-follow a (Open slot frame buffer pads) =
     let k = governs a.door slot in
     let w = word (pads slot) in
     opening a (handed_entry a slot frame w) (place_under k w a.door.number slot frame) buffer
     (first_refusal
-    (open_questions (last_slot a At-door) slot k.width a.allowance frame buffer pads (finding_under k w a.door.number slot frame)))
-ends-follow a (Appoint At-reader key start) =
+    (open_questions (last_slot a AtDoor) slot k.width a.allowance frame buffer pads (finding_under k w a.door.number slot frame)))
+ends-follow a (Appoint AtReader key start) =
     changing_reader a a.reader.current (Some (record { key = key; start = start })) (a.used ++ key ∷ [])
-    (first_refusal (appoint_questions a.reader.next (last_slot a At-reader) key start))
-ends-follow a (Appoint At-door key start) =
+    (first_refusal (appoint_questions a.reader.next (last_slot a AtReader) key start))
+ends-follow a (Appoint AtDoor key start) =
     changing_door a a.door.current (Some (record { key = key; start = start })) (a.used ++ key ∷ [])
-    (first_refusal (appoint_questions a.door.next (last_slot a At-door) key start))
-ends-follow a (Strike At-reader) =
+    (first_refusal (appoint_questions a.door.next (last_slot a AtDoor) key start))
+ends-follow a (Strike AtReader) =
     changing_reader a (next_key a.reader.next a.reader.current) None a.used
-    (first_refusal (strike_questions a.reader.next (last_slot a At-reader)))
-ends-follow a (Strike At-door) =
+    (first_refusal (strike_questions a.reader.next (last_slot a AtReader)))
+ends-follow a (Strike AtDoor) =
     changing_door a (next_key a.door.next a.door.current) None a.used
-    (first_refusal (strike_questions a.door.next (last_slot a At-door)))
-ends-follow a (Withdraw At-reader) =
+    (first_refusal (strike_questions a.door.next (last_slot a AtDoor)))
+ends-follow a (Withdraw AtReader) =
     changing_reader a a.reader.current None a.used
-    (first_refusal (withdraw_questions a.reader.next (last_slot a At-reader)))
-ends-follow a (Withdraw At-door) =
+    (first_refusal (withdraw_questions a.reader.next (last_slot a AtReader)))
+ends-follow a (Withdraw AtDoor) =
     changing_door a a.door.current None a.used
-    (first_refusal (withdraw_questions a.door.next (last_slot a At-door)))
+    (first_refusal (withdraw_questions a.door.next (last_slot a AtDoor)))

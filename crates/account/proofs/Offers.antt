@@ -11,7 +11,7 @@ use Rattle.frames.specs.Changed.{Distant, changed_places, Restores, Shows}
 use Rattle.frames.proofs.Copying.{frames_show}
 use Rattle.frames.proofs.Parts.{payload_size_is, length_frame, frame_spare}
 use Rattle.account.specs.Questions.{Refusal, first_refusal}
-use Rattle.account.specs.Calls.{Pads, word, At-door, Open}
+use Rattle.account.specs.Calls.{Pads, word, AtDoor, Open}
 use Rattle.account.specs.Opening.{open_questions, finding_under, payload_under, place_under}
 use Rattle.account.specs.Account.{SealedFrame, Account, Step, governs, last_slot, opens, outcome}
 use Rattle.account.specs.Promise.{Copies, changed, HandsOver, IsRefused}
@@ -31,7 +31,7 @@ not_clean Nowhere h = refl
 -- the outcome of an open by a key of width n that finds f
 abbrev open_by : (a : Account) (slot : ℕ) (frame buffer : List ℕ) (pads : Pads) (n : ℕ) (f : Finding) → Step
 open_by a slot frame buffer pads n f =
-    opens (first_refusal (open_questions (last_slot a At-door) slot n a.allowance frame buffer pads f))
+    opens (first_refusal (open_questions (last_slot a AtDoor) slot n a.allowance frame buffer pads f))
     a
     (record { slot = slot; payload = mended f (payload_of n frame) })
     (told_place f (payload_size n frame))
@@ -128,13 +128,13 @@ module _ (a : Account) (slot : ℕ) (frame buffer : List ℕ) (pads : Pads) (e :
   spare-zero =
       ap weight (sym cp.same_spare ∙ ap (spare_bits n) made) ∙ frame_spare n e.pad e.number e.slot cs e.payload
 
-  all_yes : last_slot a At-door < slot → L ≤ length buffer → (is_clean found || eqb a.allowance 1) ≡ true
+  all_yes : last_slot a AtDoor < slot → L ≤ length buffer → (is_clean found || eqb a.allowance 1) ≡ true
       → is_somewhere found ≡ true → outside_bound found ≡ true
-      → first_refusal (open_questions (last_slot a At-door) slot n a.allowance frame buffer pads found) ≡ None
+      → first_refusal (open_questions (last_slot a AtDoor) slot n a.allowance frame buffer pads found) ≡ None
   unfolding L
   all_yes later fits seen somewhere outside =
-      passes (open_questions (last_slot a At-door) slot n a.allowance frame buffer pads found) (
-        lt-ltb (last_slot a At-door) slot later,
+      passes (open_questions (last_slot a AtDoor) slot n a.allowance frame buffer pads found) (
+        lt-ltb (last_slot a AtDoor) slot later,
         (
           and_from (ltb (tag_size n) (length frame)) (leb (length frame) (tag_size n + longest_payload))
               (lt-ltb (tag_size n) (length frame) (omega (arith, size, genuine.some_bytes)))
@@ -152,7 +152,7 @@ module _ (a : Account) (slot : ℕ) (frame buffer : List ℕ) (pads : Pads) (e :
         ),
       )
 
-  restored : last_slot a At-door < slot → length e.payload ≤ length buffer → (is_clean found || eqb a.allowance 1) ≡ true
+  restored : last_slot a AtDoor < slot → length e.payload ≤ length buffer → (is_clean found || eqb a.allowance 1) ≡ true
       → Restores found e.payload (payload_of n frame) (changed e frame)
       → HandsOver a (outcome a (Open slot frame buffer pads)) slot e.payload buffer (changed e frame)
   unfolding L
@@ -172,10 +172,10 @@ module _ (a : Account) (slot : ℕ) (frame buffer : List ℕ) (pads : Pads) (e :
 
   -- ---- a copy that is refused
 
-  refused : SomeNo (open_questions (last_slot a At-door) slot n a.allowance frame buffer pads found)
+  refused : SomeNo (open_questions (last_slot a AtDoor) slot n a.allowance frame buffer pads found)
       → IsRefused (outcome a (Open slot frame buffer pads)).answer
   refused nay =
-      let (r, h) = refused-by (open_questions (last_slot a At-door) slot n a.allowance frame buffer pads found) nay in (
+      let (r, h) = refused-by (open_questions (last_slot a AtDoor) slot n a.allowance frame buffer pads found) nay in (
         r,
         ap (λ (s : Step). s.answer)
             (outcome-is
@@ -183,7 +183,7 @@ module _ (a : Account) (slot : ℕ) (frame buffer : List ℕ) (pads : Pads) (e :
       )
 
   module _ (d : ℕ) (far : 2 * a.allowance + d + 1 ≤ e.key.distance) where
-    pub copy_opens : weight (changed e frame) ≤ a.allowance → last_slot a At-door < slot → length e.payload ≤ length buffer
+    pub copy_opens : weight (changed e frame) ≤ a.allowance → last_slot a AtDoor < slot → length e.payload ≤ length buffer
         → HandsOver a (outcome a (Open slot frame buffer pads)) slot e.payload buffer (changed e frame)
     copy_opens few later fits =
         elim (cases_lt 0 (weight (changed e frame))) [

@@ -5,7 +5,7 @@ use Rattle.std.proofs.lemmas.Bool.{true≢false}
 use Rattle.std.proofs.ByRecursion.{has_push_cases}
 use Rattle.family.specs.Meaning.{Meaning}
 use Rattle.account.specs.Questions.{Refusal, first_refusal}
-use Rattle.account.specs.Calls.{Pads, word, Side, At-reader, At-door, Call, Seal, Wrote}
+use Rattle.account.specs.Calls.{Pads, word, Side, AtReader, AtDoor, Call, Seal, Wrote}
 use Rattle.account.specs.Account.{EndKeys, SealedFrame, Account, sealed_entry, seals, add_sealed, with_end, outcome, account_after, created}
 use Rattle.account.specs.Runs.{Origin, Origins}
 use Rattle.account.proofs.Asking.{passed}
@@ -17,8 +17,8 @@ its_word None h = absurd (true≢false (sym h))
 
 module _ (e : SealedFrame) where
   with_has : (a : Account) (side : Side) (x : EndKeys) (used : List Meaning) → Has (with_end a side x used).sealed e → Has a.sealed e
-  with_has a At-reader x used h = h
-  with_has a At-door x used h = h
+  with_has a AtReader x used h = h
+  with_has a AtDoor x used h = h
 
   seal_origin : (a : Account) (slot : ℕ) (payload buffer : List ℕ) (pads : Pads) (c : Call) (rest : List Call) → c ≡ Seal slot payload buffer pads
       → first_refusal (seal_asked a slot payload buffer pads) ≡ None → Has (add_sealed a (sealed_entry a slot payload (word (pads slot)))).sealed e

@@ -9,7 +9,7 @@ use Rattle.family.specs.Meaning.{Meaning}
 use Rattle.frames.specs.Limits.{needed_reach}
 use Rattle.frames.specs.Frames.{payload_size}
 use Rattle.account.specs.Questions.{Refusal, first_refusal}
-use Rattle.account.specs.Calls.{Pads, word, Side, At-reader, At-door, Call, Open, Opened}
+use Rattle.account.specs.Calls.{Pads, word, Side, AtReader, AtDoor, Call, Open, Opened}
 use Rattle.account.specs.Keys.{key_questions, door_questions}
 use Rattle.account.specs.Opening.{place_under}
 use Rattle.account.specs.Account.{EndKeys, SealedFrame, HandedOver, Account, governs, last_slot, add_sealed, handed_entry, add_handed, opens, with_end, outcome, account_after, Creations, created}
@@ -61,8 +61,8 @@ created-sound c h =
 
 -- the allowance stays
 with_allowance : (a : Account) (side : Side) (e : EndKeys) (used : List Meaning) → (with_end a side e used).allowance ≡ a.allowance
-with_allowance a At-reader e used = refl
-with_allowance a At-door e used = refl
+with_allowance a AtReader e used = refl
+with_allowance a AtDoor e used = refl
 
 step-allowance : (a : Account) (c : Call) → (outcome a c).after.allowance ≡ a.allowance
 step-allowance a c =
@@ -78,8 +78,8 @@ run_allowance a (c ∷ cs) = run_allowance (outcome a c).after cs ∙ step-allow
 -- what holds of all keys used by a run holds of those used so far
 module _ (P : Meaning → Type 0) where
   with_used : (a : Account) (side : Side) (e : EndKeys) (more : List Meaning) → AllByRecursion P (with_end a side e (a.used ++ more)).used → AllByRecursion P a.used
-  with_used a At-reader e more h = all_front P a.used more h
-  with_used a At-door e more h = all_front P a.used more h
+  with_used a AtReader e more h = all_front P a.used more h
+  with_used a AtDoor e more h = all_front P a.used more h
 
   step-used : (a : Account) (c : Call) → AllByRecursion P (outcome a c).after.used → AllByRecursion P a.used
   step-used a c =
@@ -170,8 +170,8 @@ add_all_sealed a e h =
     h)
 
 with_all_sealed : (a : Account) (side : Side) (e : EndKeys) (used : List Meaning) → AllSealed a → AllSealed (with_end a side e used)
-with_all_sealed a At-reader e used h = h
-with_all_sealed a At-door e used h = h
+with_all_sealed a AtReader e used h = h
+with_all_sealed a AtDoor e used h = h
 
 module _ (d : ℕ) where
   -- an open that is accepted, and only of a copy with few changed bits, hands over what was sealed
@@ -193,7 +193,7 @@ module _ (d : ℕ) where
             let (r, k) = copy_refused a slot frame buffer pads e v cp hb d fe many few in absurd (let z : ◌≡◌ {A = ℕ} 0 1 = cc in omega arith)
         | inr small ↦
             let ho =
-            copy_opens a slot frame buffer pads e v cp hb d fe small (ltb-true (last_slot a At-door) slot y.0)
+            copy_opens a slot frame buffer pads e v cp hb d fe small (ltb-true (last_slot a AtDoor) slot y.0)
             (fits_from a slot frame buffer pads e v cp hb
             (leb-true (payload_size (governs a.door slot).width frame) (length buffer) y.1.1.1.0)) in
             let x : HandedOver = record { slot = slot; payload = e.payload } in

@@ -11,7 +11,7 @@ use Rattle.frames.specs.Limits.{longest_payload, needed_reach}
 use Rattle.frames.specs.Frames.{text_size, pad_of, frame_of}
 use Rattle.frames.proofs.Shifts.{pad_of-lt}
 use Rattle.account.specs.Questions.{Refusal, Question, first_refusal}
-use Rattle.account.specs.Calls.{Pads, word, Side, At-reader, At-door, Call, Seal, Open, Appoint, Strike, Withdraw}
+use Rattle.account.specs.Calls.{Pads, word, Side, AtReader, AtDoor, Call, Seal, Open, Appoint, Strike, Withdraw}
 use Rattle.account.specs.Keys.{Pending, governing, next_key, appoint_questions, strike_questions, withdraw_questions}
 use Rattle.account.specs.Sealing.{seal_questions, frame_under}
 use Rattle.account.specs.Opening.{open_questions, finding_under, place_under}
@@ -23,11 +23,11 @@ use Rattle.account.proofs.Asking.{passed}
 
 -- the questions of a call at an account, and what it would add
 abbrev pub seal_asked : Account → (slot : ℕ) (payload buffer : List ℕ) (pads : Pads) → List Question
-seal_asked a slot payload buffer pads = seal_questions (last_slot a At-reader) slot (governs a.reader slot).width payload buffer pads
+seal_asked a slot payload buffer pads = seal_questions (last_slot a AtReader) slot (governs a.reader slot).width payload buffer pads
 
 abbrev pub open_asked : Account → (slot : ℕ) (frame buffer : List ℕ) (pads : Pads) → List Question
 open_asked a slot frame buffer pads =
-    open_questions (last_slot a At-door) slot (governs a.door slot).width a.allowance frame buffer pads
+    open_questions (last_slot a AtDoor) slot (governs a.door slot).width a.allowance frame buffer pads
     (finding_under (governs a.door slot) (word (pads slot)) a.door.number slot frame)
 
 -- What holds before a call holds after it, if it holds after each way to accept one. A refused call leaves the account.
@@ -191,7 +191,7 @@ seal_sound a slot payload buffer pads v hb accepted =
           });
       sealed_rise =
           subst (StrictlyRising 0) (sym (map_push (λ (x : SealedFrame). x.slot) a.sealed e))
-          (rising_push 0 (sealed_slots a) slot v.sealed_rise (ltb-true (last_slot a At-reader) slot y.0));
+          (rising_push 0 (sealed_slots a) slot v.sealed_rise (ltb-true (last_slot a AtReader) slot y.0));
       handed_rise = v.handed_rise;
       allowed = v.allowed;
     }
@@ -208,28 +208,28 @@ open_sound a slot frame buffer pads place v accepted =
       sealed_rise = v.sealed_rise;
       handed_rise =
           subst (StrictlyRising 0) (sym (map_push (λ (x : HandedOver). x.slot) a.handed (handed_entry a slot frame (word (pads slot)))))
-          (rising_push 0 (handed_slots a) slot v.handed_rise (ltb-true (last_slot a At-door) slot y.0));
+          (rising_push 0 (handed_slots a) slot v.handed_rise (ltb-true (last_slot a AtDoor) slot y.0));
       allowed = v.allowed;
     }
 
 -- ---- changes of keys
 
 end_good : (a : Account) (side : Side) → Sound a → GoodEnd a.used (keys_at a side)
-end_good a At-reader v = v.reader_end
-end_good a At-door v = v.door_end
+end_good a AtReader v = v.reader_end
+end_good a AtDoor v = v.door_end
 
 put_sound : (a : Account) (side : Side) (e : EndKeys) → Sound a → GoodEnd a.used e → Sound (with_end a side e a.used)
-put_sound a At-reader e v g =
+put_sound a AtReader e v g =
     record { reader_end = g; door_end = v.door_end; genuine = v.genuine; sealed_rise = v.sealed_rise; handed_rise = v.handed_rise; allowed = v.allowed }
-put_sound a At-door e v g =
+put_sound a AtDoor e v g =
     record { reader_end = v.reader_end; door_end = g; genuine = v.genuine; sealed_rise = v.sealed_rise; handed_rise = v.handed_rise; allowed = v.allowed }
 
 put_more : (a : Account) (side : Side) (e : EndKeys) (l : Meaning) → Sound a → GoodEnd (a.used ++ l ∷ []) e
     → Sound (with_end a side e (a.used ++ l ∷ []))
-put_more a At-reader e l v g =
+put_more a AtReader e l v g =
     let m = used_more a l v in
     record { reader_end = g; door_end = m.door_end; genuine = m.genuine; sealed_rise = m.sealed_rise; handed_rise = m.handed_rise; allowed = m.allowed }
-put_more a At-door e l v g =
+put_more a AtDoor e l v g =
     let m = used_more a l v in
     record { reader_end = m.reader_end; door_end = g; genuine = m.genuine; sealed_rise = m.sealed_rise; handed_rise = m.handed_rise; allowed = m.allowed }
 

@@ -4,7 +4,7 @@ use Rattle.std.specs.Prelude.{◌≡◌, ℕ, List, [], ◌∷◌, ◌++◌, map
 use Rattle.family.specs.Meaning.{Meaning}
 use Rattle.frames.specs.Frames.{pad_of}
 use Rattle.account.specs.Questions.{Refusal, first_refusal}
-use Rattle.account.specs.Calls.{word, Side, At-reader, At-door, Call, Seal, Open, Appoint, Strike, Withdraw, Answer, Wrote, Opened, Done, Refused}
+use Rattle.account.specs.Calls.{word, Side, AtReader, AtDoor, Call, Seal, Open, Appoint, Strike, Withdraw, Answer, Wrote, Opened, Done, Refused}
 use Rattle.account.specs.Keys.{Pending, governing, next_key, appoint_questions, strike_questions, withdraw_questions}
 use Rattle.account.specs.Sealing.{seal_questions, frame_under}
 use Rattle.account.specs.Opening.{finding_under, payload_under, place_under, open_questions}
@@ -49,8 +49,8 @@ pub record Account : Type 0 where
 
 -- an end's keys
 abbrev pub keys_at : Account → Side → EndKeys
-keys_at a At-reader = a.reader
-keys_at a At-door = a.door
+keys_at a AtReader = a.reader
+keys_at a AtDoor = a.door
 
 -- the last of a list that follows `first`
 abbrev pub last_of : (first : ℕ) → List ℕ → ℕ
@@ -66,8 +66,8 @@ handed_slots a = map (λ (e : HandedOver). e.slot) a.handed
 
 -- an end's last slot: the last in its list, or 0
 abbrev pub last_slot : Account → Side → ℕ
-last_slot a At-reader = last_of 0 (sealed_slots a)
-last_slot a At-door = last_of 0 (handed_slots a)
+last_slot a AtReader = last_of 0 (sealed_slots a)
+last_slot a AtDoor = last_of 0 (handed_slots a)
 
 -- ---- what a call leaves: its answer, what its output buffer then holds, and the account. A refused call changes nothing.
 
@@ -117,8 +117,8 @@ opens None a e place buffer =
 
 -- the account with other keys at one end
 abbrev pub with_end : Account → Side → EndKeys → (used : List Meaning) → Account
-with_end a At-reader e used = record { reader = e; door = a.door; allowance = a.allowance; sealed = a.sealed; handed = a.handed; used = used }
-with_end a At-door e used = record { reader = a.reader; door = e; allowance = a.allowance; sealed = a.sealed; handed = a.handed; used = used }
+with_end a AtReader e used = record { reader = e; door = a.door; allowance = a.allowance; sealed = a.sealed; handed = a.handed; used = used }
+with_end a AtDoor e used = record { reader = a.reader; door = e; allowance = a.allowance; sealed = a.sealed; handed = a.handed; used = used }
 
 -- a change of keys, refused or accepted
 abbrev pub rekeys : Option Refusal → Account → Side → EndKeys → (used : List Meaning) → Step
@@ -129,7 +129,7 @@ rekeys None a side e used = record { answer = Done; buffer = []; after = with_en
 abbrev pub outcome : Account → Call → Step
 outcome a (Seal slot payload buffer pads) =
     seals
-    (first_refusal (seal_questions (last_slot a At-reader) slot (governs a.reader slot).width payload buffer pads))
+    (first_refusal (seal_questions (last_slot a AtReader) slot (governs a.reader slot).width payload buffer pads))
     a
     (sealed_entry a slot payload (word (pads slot)))
     buffer
@@ -138,7 +138,7 @@ outcome a (Open slot frame buffer pads) =
     let w = word (pads slot) in
     opens
     (first_refusal
-    (open_questions (last_slot a At-door) slot key.width a.allowance frame buffer pads (finding_under key w a.door.number slot frame)))
+    (open_questions (last_slot a AtDoor) slot key.width a.allowance frame buffer pads (finding_under key w a.door.number slot frame)))
     a
     (handed_entry a slot frame w)
     (place_under key w a.door.number slot frame)

@@ -14,7 +14,7 @@ word None = 0
 
 -- the reader's end, or the door's
 pub data Side : Type 0 where
-  At-reader At-door : Side
+  AtReader AtDoor : Side
 
 -- a call with its arguments; `buffer` is what its output buffer holds before it
 pub data Call : Type 0 where

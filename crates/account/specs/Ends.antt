@@ -3,7 +3,7 @@ use Rattle.std.specs.Prelude.{◌≡◌, ℕ, List, [], ◌++◌, length, drop, 
 use Rattle.family.specs.Meaning.{Meaning}
 use Rattle.frames.specs.Limits.{needed_reach}
 use Rattle.account.specs.Questions.{Refusal, first_refusal}
-use Rattle.account.specs.Calls.{Pads, word, At-reader, At-door, Call, Seal, Open, Appoint, Strike, Withdraw, Answer, Wrote, Opened, Done, Refused}
+use Rattle.account.specs.Calls.{Pads, word, AtReader, AtDoor, Call, Seal, Open, Appoint, Strike, Withdraw, Answer, Wrote, Opened, Done, Refused}
 use Rattle.account.specs.Keys.{Pending, governing, next_key, appoint_questions, strike_questions, withdraw_questions}
 use Rattle.account.specs.Sealing.{seal_questions, frame_under}
 use Rattle.account.specs.Opening.{finding_under, payload_under, place_under, open_questions}
@@ -126,12 +126,12 @@ from_door e r = record { answer = r.answer; buffer = r.buffer; after = record { 
 abbrev pub reply : Ends → Call → Replied
 reply e (Seal slot payload buffer pads) = from_reader e (seal_reply e.reader slot payload buffer pads)
 reply e (Open slot frame buffer pads) = from_door e (open_reply e.door slot frame buffer pads)
-reply e (Appoint At-reader key start) = from_reader e (appoint_reply e.reader key start)
-reply e (Appoint At-door key start) = from_door e (appoint_reply e.door key start)
-reply e (Strike At-reader) = from_reader e (strike_reply e.reader)
-reply e (Strike At-door) = from_door e (strike_reply e.door)
-reply e (Withdraw At-reader) = from_reader e (withdraw_reply e.reader)
-reply e (Withdraw At-door) = from_door e (withdraw_reply e.door)
+reply e (Appoint AtReader key start) = from_reader e (appoint_reply e.reader key start)
+reply e (Appoint AtDoor key start) = from_door e (appoint_reply e.door key start)
+reply e (Strike AtReader) = from_reader e (strike_reply e.reader)
+reply e (Strike AtDoor) = from_door e (strike_reply e.door)
+reply e (Withdraw AtReader) = from_reader e (withdraw_reply e.reader)
+reply e (Withdraw AtDoor) = from_door e (withdraw_reply e.door)
 
 -- ---- the ends and the account
 
@@ -147,9 +147,9 @@ new_ends c =
 abbrev pub ends_of : Account → Ends
 ends_of a =
     record {
-      reader = record { current = a.reader.current; next = a.reader.next; number = a.reader.number; last = last_slot a At-reader; allowance = 0 };
+      reader = record { current = a.reader.current; next = a.reader.next; number = a.reader.number; last = last_slot a AtReader; allowance = 0 };
       door =
-          record { current = a.door.current; next = a.door.next; number = a.door.number; last = last_slot a At-door; allowance = a.allowance };
+          record { current = a.door.current; next = a.door.next; number = a.door.number; last = last_slot a AtDoor; allowance = a.allowance };
     }
 
 -- Ends that stand as the account says reply as it works out, and then stand again as it says.

@@ -2,7 +2,7 @@
 use Rattle.std.specs.Prelude.{◌≡◌, ℕ, zero, suc, List, [], ◌∷◌, ◌++◌, map, replicate, Some, None}
 use Rattle.family.specs.Meaning.{Meaning}
 use Rattle.account.specs.Questions.{first_refusal}
-use Rattle.account.specs.Calls.{Pads, At-door, Call, Seal, Open, Appoint, Strike, Withdraw, Wrote, Opened, Done, Refused}
+use Rattle.account.specs.Calls.{Pads, AtDoor, Call, Seal, Open, Appoint, Strike, Withdraw, Wrote, Opened, Done, Refused}
 use Rattle.account.specs.Keys.{key_questions, door_questions}
 use Rattle.account.specs.Account.{outcomes, Creations, created}
 use Rattle.account.specs.Runs.{Returned, worked_out}
@@ -68,19 +68,19 @@ calls =
     ∷ Open 3 (second_frame 0 12 0) (9 ∷ 9 ∷ []) pads
     ∷ Open 2 (second_frame 1 12 16) (9 ∷ 9 ∷ []) pads
     ∷ Open 2 (second_frame 0 10 0) (9 ∷ 9 ∷ []) pads
-    ∷ Strike At-door
-    ∷ Appoint At-door key 1
-    ∷ Appoint At-door (key_of 44 1016) 2
-    ∷ Appoint At-door (key_of 63 1000) 2
-    ∷ Appoint At-door key 2
-    ∷ Appoint At-door key 3
-    ∷ Strike At-door
+    ∷ Strike AtDoor
+    ∷ Appoint AtDoor key 1
+    ∷ Appoint AtDoor (key_of 44 1016) 2
+    ∷ Appoint AtDoor (key_of 63 1000) 2
+    ∷ Appoint AtDoor key 2
+    ∷ Appoint AtDoor key 3
+    ∷ Strike AtDoor
     ∷ Open 2 (second_frame 1 12 0) (9 ∷ 9 ∷ []) pads
-    ∷ Withdraw At-door
-    ∷ Strike At-door
-    ∷ Appoint At-door key 3
-    ∷ Withdraw At-door
-    ∷ Withdraw At-door
+    ∷ Withdraw AtDoor
+    ∷ Strike AtDoor
+    ∷ Appoint AtDoor key 3
+    ∷ Withdraw AtDoor
+    ∷ Withdraw AtDoor
     ∷ []
 
 -- and what is worked out for them
@@ -117,7 +117,7 @@ returned =
 -- a changed bit of the tag is named and leaves the payload; with no change allowed, one is refused; a door's allowance is 0 or 1
 pub record FiguresStand : Type 0 where
   pub one_allowed : WorksOut (creations 1) calls returned
-  pub in-the-tag :
+  pub in_the_tag :
       WorksOut (creations 1) (Open 2 (second_frame 0 12 2) (9 ∷ []) pads ∷ []) (record { answer = Opened 1 (Some 70); buffer = 0 ∷ [] } ∷ [])
   pub none_allowed : WorksOut (creations 0) (Open 2 (second_frame 1 12 0) (9 ∷ []) pads ∷ []) (refused 26 (9 ∷ []) ∷ [])
   pub reader_created : first_refusal (key_questions key) ≡ None

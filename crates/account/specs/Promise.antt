@@ -6,7 +6,7 @@ use Rattle.family.specs.Meaning.{Meaning, Lawful, Same}
 use Rattle.frames.specs.Frames.{pad_of, spare_bits}
 use Rattle.frames.specs.Changed.{changed_places, Names}
 use Rattle.account.specs.Questions.{Refusal, first_refusal}
-use Rattle.account.specs.Calls.{Pads, At-door, Call, Seal, Open, Appoint, Strike, Withdraw, Answer, Opened, Refused}
+use Rattle.account.specs.Calls.{Pads, AtDoor, Call, Seal, Open, Appoint, Strike, Withdraw, Answer, Opened, Refused}
 use Rattle.account.specs.Keys.{key_questions, door_questions}
 use Rattle.account.specs.Account.{SealedFrame, HandedOver, Account, Step, governs, last_slot, handed_slots, outcome, account_after, Creations, created}
 
@@ -80,7 +80,7 @@ OpensCopies start calls =
     → let here = account_after start before in
     calls ≡ before ++ Open slot frame buffer pads ∷ after
     → Copies here slot frame pads e → weight (changed e frame) ≤ start.allowance
-    → last_slot here At-door < slot → length e.payload ≤ length buffer
+    → last_slot here AtDoor < slot → length e.payload ≤ length buffer
     → HandsOver here (outcome here (Open slot frame buffer pads)) slot e.payload buffer (changed e frame)
 
 -- a copy with more changed bits, up to d more, is refused

@@ -1,7 +1,7 @@
 //! The ChaCha20 block function, in the order in which RFC 8439 builds it up.
 ghost use Rattle.std.specs.Prelude.{◌≡◌, ◌+◌, ◌<◌, ◌≤◌, length};
 ghost use Rattle.chacha20.specs.Block.{quarter_round, quarter_round_at, column_round, diagonal_round, double_rounds};
-ghost use Rattle.chacha20.specs.Block.{word_at, initial_state, sums, serialized, block as TheBlock};
+ghost use Rattle.chacha20.specs.Block.{word_at, initial_state, sums, serialized, block as the_block};
 
 // "expand 32-byte k" in four words, which every initial state begins with (section 2.3).
 const CONSTANTS: [u32; 4] = [0x61707865, 0x3320646e, 0x79622d32, 0x6b206574];
@@ -112,7 +112,7 @@ fn serialize(state: &[u32; 16]) -> [u8; 64]
 
 // The 64 bytes of the key stream at a block counter (section 2.3), for every key, nonce and counter.
 pub fn block(key: &[u8; 32], nonce: &[u8; 12], counter: u32) -> [u8; 64]
-    ensures { result ≡ TheBlock key.now nonce.now counter }
+    ensures { result ≡ the_block key.now nonce.now counter }
 {
     let initial = initial_state(key, nonce, counter);
     let mut state = initial;

@@ -1,6 +1,6 @@
 //! The CRC family: admission, and what an admitted key answers.
-ghost use Rattle.std.specs.Prelude.{◌≡◌, ℕ, ◌+◌, ◌%◌, ◌^◌, ◌<◌, ◌≤◌, ◌++◌, length, ◌==◌, count_ones};
-ghost use Rattle.bits.specs.Columns.{place, units};
+ghost use Rattle.std.specs.Prelude.{◌≡◌, ◌≤◌};
+ghost use Rattle.bits.specs.Columns.{place};
 ghost use Rattle.crc.specs.Admitted.{crc_key};
 ghost use Rattle.crc.specs.Crc.{crc, crc_questions};
 ghost use Rattle.crc.specs.CrcLaw.{crc_lawful};

@@ -4,7 +4,7 @@ use Rattle.framing.specs.Refusals.{plain}
 use Rattle.ends.specs.declared.refusals.KeyRefusal.{KeyRefusal}
 use Rattle.ends.specs.declared.refusals.KeyRefusal.TheVariants.{TooNarrow, WrongReach}
 use Rattle.ends.specs.declared.refusals.DoorRefusal.{DoorRefusal}
-use Rattle.ends.specs.declared.refusals.DoorRefusal.TheVariants.{Key as Door-key, Allowance}
+use Rattle.ends.specs.declared.refusals.DoorRefusal.TheVariants.{Key as DoorKey, Allowance}
 use Rattle.ends.specs.declared.refusals.ChangeRefusal.{ChangeRefusal}
 use Rattle.ends.specs.declared.refusals.ChangeRefusal.TheVariants.{Pending, StartSpent, Key, NonePending, NotYetUsed, AlreadyUsed}
 
@@ -14,7 +14,7 @@ key_refusal WrongReach = plain 42
 
 -- a key's refusal is passed on
 abbrev pub door_refusal : DoorRefusal → Refusal
-door_refusal (Door-key refusal) = key_refusal refusal
+door_refusal (DoorKey refusal) = key_refusal refusal
 door_refusal Allowance = plain 43
 
 abbrev pub change_refusal : ChangeRefusal → Refusal

@@ -114,9 +114,9 @@ module _ (n pad door slot : ℕ) (cs payload : List ℕ) (hh : pad < 2 ^ n) (hc 
     same_payload_bits =
         length-bits payload ∙ ap (λ (k : ℕ). 8 * k) (sym (length_payload n (length payload) g lg)) ∙ sym (length-bits (payload_of n g))
 
-    ΔParts : Δ ≡ payload-changes ++ tag_changes
+    Δ_parts : Δ ≡ payload-changes ++ tag_changes
     unfolding payload-changes tag_changes
-    ΔParts =
+    Δ_parts =
         ap (λ (p : List ℕ). changes (bits p ++ tag_bits n sent) (places n g)) (frame_payload n pad door slot cs payload)
         ∙ changes-append (bits payload) (tag_bits n sent) (bits (payload_of n g)) (tag_bits n g) same_payload_bits
 
@@ -125,7 +125,7 @@ module _ (n pad door slot : ℕ) (cs payload : List ℕ) (hh : pad < 2 ^ n) (hc 
     length-payload-changes = length-changes (bits payload) (bits (payload_of n g)) same_payload_bits ∙ length-bits payload
 
     weight-parts : weight Δ ≡ weight payload-changes + weight tag_changes
-    weight-parts = ap weight ΔParts ∙ weight-append payload-changes tag_changes
+    weight-parts = ap weight Δ_parts ∙ weight-append payload-changes tag_changes
 
     -- ---- what is given back and named
 
@@ -201,7 +201,7 @@ module _ (n pad door slot : ℕ) (cs payload : List ℕ) (hh : pad < 2 ^ n) (hc 
           let wΔ : weight (toggle Δ (p - 64)) ≡ 0 = omega (arith, ap weight (sym r) ∙ t, weight-append Z (toggle Δ (p - 64))) in
           let inside : p - 64 < 8 * length payload = omega arith in
           let r2 : toggle Δ (p - 64) ≡ toggle payload-changes (p - 64) ++ tag_changes =
-          ap (λ (x : List Bool). toggle x (p - 64)) ΔParts
+          ap (λ (x : List Bool). toggle x (p - 64)) Δ_parts
           ∙ toggle-left payload-changes tag_changes (p - 64) (omega (arith, length-payload-changes)) in
           (outside, inside, omega (arith, ap weight (sym r2) ∙ wΔ, weight-append (toggle payload-changes (p - 64)) tag_changes), wΔ)
 
@@ -218,7 +218,7 @@ module _ (n pad door slot : ℕ) (cs payload : List ℕ) (hh : pad < 2 ^ n) (hc 
           let r : toggle (Z ++ Δ) i ≡ Z ++ toggle Δ q = ap (toggle (Z ++ Δ)) (omega (arith, length-Z)) ∙ toggle-right Z Δ q in
           let wΔ : weight (toggle Δ q) ≡ 0 = omega (arith, ap weight (sym r) ∙ t, weight-append Z (toggle Δ q)) in
           let r2 : toggle Δ q ≡ payload-changes ++ toggle tag_changes k =
-          ap (λ (x : List Bool). toggle x q) ΔParts
+          ap (λ (x : List Bool). toggle x q) Δ_parts
           ∙ ap (toggle (payload-changes ++ tag_changes)) (omega (arith, length-payload-changes))
           ∙ toggle-right payload-changes tag_changes k in
           (omega (arith, ap weight (sym r2) ∙ wΔ, weight-append payload-changes (toggle tag_changes k)), wΔ)

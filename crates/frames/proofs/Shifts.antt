@@ -20,8 +20,8 @@ bound_word-bytes door slot =
     bits-append (bytes_of 4 door) (bytes_of 4 slot) ∙ ap₂ (λ (x y : List Bool). x ++ y) (bits-bytes_of 4 door) (bits-bytes_of 4 slot)
 
 -- the pad as a shift
-pub pads-are_pads : PadsArePads
-pads-are_pads n w h l =
+pub pads_are_pads : PadsArePads
+pads_are_pads n w h l =
     let e : ◌≡◌ {A = ℕ} 64 (n + (64 - n)) = omega arith in mod-eq_of_lt (shr_below w n (64 - n) (subst (λ (k : ℕ). w < 2 ^ k) e l))
 
 pub pad_of-lt : (n w : ℕ) → pad_of n w < 2 ^ n

@@ -18,8 +18,8 @@ found_in_tag None = Nowhere
 
 -- by the place among the columns of the text, if it has one, and otherwise among the unit columns
 abbrev pub found_in_text : Option ℕ → Option ℕ → Finding
-found_in_text (Some p) in-tag = Column p
-found_in_text None in-tag = found_in_tag in-tag
+found_in_text (Some p) in_tag = Column p
+found_in_text None in_tag = found_in_tag in_tag
 
 -- which of them it is, under a key of width n with the columns cs
 abbrev pub finding : (n : ℕ) (cs : List ℕ) (syndrome : ℕ) → Finding

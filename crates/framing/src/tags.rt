@@ -1,5 +1,5 @@
 //! Texts and tags.
-ghost use Rattle.std.specs.Prelude.{◌≡◌, ◌+◌, ◌-◌, ◌*◌, ◌^◌, ◌<◌, ◌≤◌, ◌++◌, length, take, MatchResult};
+ghost use Rattle.std.specs.Prelude.{◌≡◌, ◌+◌, ◌*◌, ◌^◌, ◌<◌, ◌≤◌, ◌++◌, length, take, MatchResult};
 ghost use Rattle.bits.specs.Bytes.{bytes_of};
 ghost use Rattle.frames.specs.Frames.{pad_of, tag_of, tag_size, text_size};
 ghost use Rattle.frames.specs.Limits.{longest_payload};

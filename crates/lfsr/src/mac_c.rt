@@ -1,12 +1,12 @@
 //! MAC-C keys: admission, and what a key answers.
-ghost use Rattle.std.specs.Prelude.{◌≡◌, ℕ, ◌+◌, ◌<◌, ◌≤◌, ◌++◌, map, length, Decides, slice_index, refl};
+ghost use Rattle.std.specs.Prelude.{◌≡◌, ◌+◌, ◌++◌, Decides};
 ghost use Rattle.bits.specs.Columns.{units};
 ghost use Rattle.family.specs.Admission.{admission_number};
 ghost use Rattle.family.specs.Meaning.{Separate};
 ghost use Rattle.family.specs.Questions.{Asked};
 ghost use Rattle.lfsr.specs.Admitted.{mac_c_key};
 ghost use Rattle.lfsr.specs.KeyLaws.{mac_c_lawful};
-ghost use Rattle.lfsr.specs.Keys.{mac_c, mac_c_questions, states, evened};
+ghost use Rattle.lfsr.specs.Keys.{mac_c, mac_c_questions};
 
 use crate::digests;
 use crate::evening::with_even_ones;

@@ -5,8 +5,8 @@ ghost use Rattle.family.specs.Meaning.{Separate};
 ghost use Rattle.family.specs.Questions.{Asked};
 ghost use Rattle.lfsr.specs.Admitted.{toeplitz_key};
 ghost use Rattle.lfsr.specs.KeyLaws.{toeplitz_lawful};
-ghost use Rattle.lfsr.specs.Keys.{toeplitz, toeplitz_questions, states};
-ghost use Rattle.std.specs.Prelude.{◌≡◌, ℕ, ◌<◌, ◌≤◌, ◌++◌, Decides, refl};
+ghost use Rattle.lfsr.specs.Keys.{toeplitz, toeplitz_questions};
+ghost use Rattle.std.specs.Prelude.{◌≡◌, ◌++◌, Decides};
 
 use crate::digests;
 use crate::keys::ToeplitzKey;

@@ -35,4 +35,4 @@ be8 (a ∷ (b ∷ (c ∷ (d ∷ (e ∷ (f ∷ (g ∷ (i ∷ r)))))))) h = omega 
 pub numbered : (size at : ℕ) (bs : List ℕ) (v : ℕ) → size ≤ length bs → v ≡ number_from_digits 256 (take size bs) → Number size at bs v (at + size) (take (length bs - size) (drop size bs))
 numbered size at bs v h e =
     let t = take_rest bs size in
-    record { there = h; value = e; place_is = refl; rest-is = t; kept = let l = ap length t ∙ length-drop size bs in omega arith }
+    record { there = h; value = e; place_is = refl; rest_is = t; kept = let l = ap length t ∙ length-drop size bs in omega arith }

@@ -33,9 +33,9 @@ pub frame_past : (at : ℕ) (bs : List ℕ) (slot p1 : ℕ) (r1 : List ℕ) (siz
 unfolding sent_frame
 frame_past at bs slot p1 r1 size p2 r2 n m h =
     let four : slot ≡ number_from_digits 256 (take 4 bs) = n.value in
-    let one : size ≡ size_in bs = m.value ∙ ap (λ z. number_from_digits 256 (take 1 z)) n.rest-is in
-    let rest : r2 ≡ drop 5 bs = m.rest-is ∙ ap (drop 1) n.rest-is ∙ drop-drop 1 4 bs in
-    let there : 5 ≤ length bs = let l = ap length n.rest-is ∙ length-drop 4 bs in let k = n.there in let j = m.there in omega arith in
+    let one : size ≡ size_in bs = m.value ∙ ap (λ z. number_from_digits 256 (take 1 z)) n.rest_is in
+    let rest : r2 ≡ drop 5 bs = m.rest_is ∙ ap (drop 1) n.rest_is ∙ drop-drop 1 4 bs in
+    let there : 5 ≤ length bs = let l = ap length n.rest_is ∙ length-drop 4 bs in let k = n.there in let j = m.there in omega arith in
     let end : take (length r2 - size) (drop size r2) ≡ drop size r2 = take_rest r2 size in
     let behind : drop size r2 ≡ behind_in bs = ap (λ z. drop size z) rest ∙ ap (λ z. drop z (drop 5 bs)) one in
     let first : (next : SentFrame → Layout Contents) → next (record { slot = slot; bytes = take size r2 }) (p2 + size) (drop size r2) ≡ next (frame_in bs) (p2 + size) (take (length r2 - size) (drop size r2)) = λ next.
@@ -53,7 +53,7 @@ frame_past at bs slot p1 r1 size p2 r2 n m h =
         kept = let l = ap length end ∙ length-drop size r2 in let a = n.kept in let b = m.kept in omega arith;
       };
       there = there;
-      rest-is = end ∙ behind;
+      rest_is = end ∙ behind;
     }
 
 pub frame-cut_slot : (at : ℕ) (bs : List ℕ) (f : FileFault) → Cut 4 at bs f → Faulty sent_frame at bs f
@@ -109,7 +109,7 @@ checked_more count at bs i place rest place' rest' c h p =
           c.to_come
           ∙ ap (λ k. c.items ++ frames_in k rest) n
           ∙ ap (λ fs. c.items ++ fs) (frames_first (count - (i + 1)) rest p.there)
-          ∙ ap (λ z. c.items ++ (frame_in rest ∷ frames_in (count - (i + 1)) z)) (sym p.rest-is)
+          ∙ ap (λ z. c.items ++ (frame_in rest ∷ frames_in (count - (i + 1)) z)) (sym p.rest_is)
           ∙ sym (append_assoc c.items (frame_in rest ∷ []) (frames_in (count - (i + 1)) rest'));
     }
 

@@ -29,7 +29,7 @@ value_past size at bs n place rest value v h e =
       goes = λ next.
           number_past size value next at bs v h.there (ap value (sym h.value) ∙ e)
           ∙ ap (λ z. next v z (drop size bs)) (sym h.place_is)
-          ∙ ap (λ z. next v place z) (sym h.rest-is);
+          ∙ ap (λ z. next v place z) (sym h.rest_is);
       kept = h.kept;
     }
 

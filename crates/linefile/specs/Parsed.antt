@@ -56,7 +56,7 @@ pub record Number (size at : ℕ) (bytes : List ℕ) (v place : ℕ) (rest : Lis
   pub there : size ≤ length bytes
   pub value : v ≡ number_from_digits 256 (take size bytes)
   pub place_is : place ≡ at + size
-  pub rest-is : rest ≡ drop size bytes
+  pub rest_is : rest ≡ drop size bytes
   pub kept : place + length rest ≡ at + length bytes
 
 -- there are fewer bytes than that
@@ -77,7 +77,7 @@ Faulty {Y = Y} part at bytes f = (next : Y → Layout Contents) → part next at
 pub record PastFrame (at : ℕ) (bytes : List ℕ) (place : ℕ) (rest : List ℕ) : Type 0 where
   pub past : Past sent_frame at bytes (frame_in bytes) place rest
   pub there : 5 ≤ length bytes
-  pub rest-is : rest ≡ behind_in bytes
+  pub rest_is : rest ≡ behind_in bytes
 
 -- ---- the same of what is left of a file, as the stages pass it on
 

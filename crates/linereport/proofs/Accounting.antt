@@ -5,7 +5,7 @@ use Rattle.std.proofs.lemmas.List.Sums.{sum_by-cons}
 use Rattle.family.specs.Meaning.{Meaning}
 use Rattle.pads.specs.Sources.{book_words}
 use Rattle.account.specs.Questions.{Refusal, first_refusal}
-use Rattle.account.specs.Calls.{Pads, word, At-door, Call, Open, Answer}
+use Rattle.account.specs.Calls.{Pads, word, AtDoor, Call, Open, Answer}
 use Rattle.account.specs.Opening.{open_questions, finding_under, place_under}
 use Rattle.account.specs.Account.{HandedOver, Account, Step, governs, last_slot, handed_entry, opens, outcome, outcomes, account_after, created}
 use Rattle.account.specs.Ends.{EndState, Replied, new_end, ends_of, reply}
@@ -47,10 +47,10 @@ handed_once (Some r) a e place buffer = omega arith
 handed_once None a e None buffer = length-append a.handed (e ∷ [])
 handed_once None a e (Some p) buffer = length-append a.handed (e ∷ [])
 
-answers-as_opens : (o : Option Refusal) (a : Account) (e : HandedOver) (place : Option ℕ) (buffer : List ℕ)
+answers_as_opens : (o : Option Refusal) (a : Account) (e : HandedOver) (place : Option ℕ) (buffer : List ℕ)
     → OfOpen (opens o a e place buffer).answer
-answers-as_opens (Some r) a e place buffer = tt
-answers-as_opens None a e place buffer = tt
+answers_as_opens (Some r) a e place buffer = tt
+answers_as_opens None a e place buffer = tt
 
 -- an open's step, in the parts that `opens` takes
 step_of : (pads : Pads) (a : Account) (f : SentFrame) (P : Step → Type 0)
@@ -60,7 +60,7 @@ step_of pads a f P h =
     let w = word (pads f.slot) in
     h
     (first_refusal
-    (open_questions (last_slot a At-door) f.slot key.width a.allowance f.bytes room pads (finding_under key w a.door.number f.slot f.bytes)))
+    (open_questions (last_slot a AtDoor) f.slot key.width a.allowance f.bytes room pads (finding_under key w a.door.number f.slot f.bytes)))
     (handed_entry a f.slot f.bytes w)
     (place_under key w a.door.number f.slot f.bytes)
 
@@ -85,7 +85,7 @@ handed_follow pads a (f ∷ fs) =
 all_of_open : (pads : Pads) (a : Account) (fs : List SentFrame) → AllByRecursion OfOpen (map (λ (s : Step). s.answer) (outcomes a (map (call_of pads) fs)))
 all_of_open pads a [] = tt
 all_of_open pads a (f ∷ fs) =
-    (step_of pads a f (λ (t : Step). OfOpen t.answer) (λ o e place. answers-as_opens o a e place room), all_of_open pads (outcome a (call_of pads f)).after fs)
+    (step_of pads a f (λ (t : Step). OfOpen t.answer) (λ o e place. answers_as_opens o a e place room), all_of_open pads (outcome a (call_of pads f)).after fs)
 
 -- one answer for each frame
 one_each : (pads : Pads) (a : Account) (fs : List SentFrame) → length (map (λ (s : Step). s.answer) (outcomes a (map (call_of pads) fs))) ≡ length fs

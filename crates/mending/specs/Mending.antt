@@ -31,7 +31,7 @@ mended (Tag k) text = text
 mended Unknown text = text
 
 -- a text that arrived was checked against its tag, and is now put right
-pub record Received (key : Meaning) (m : ℕ) (text : List ℕ) (tag pad : ℕ) (a : Arrival) (now-text : List ℕ) : Type 0 where
+pub record Received (key : Meaning) (m : ℕ) (text : List ℕ) (tag pad : ℕ) (a : Arrival) (now_text : List ℕ) : Type 0 where
   pub checked : a.syndrome ≡ syndrome key m text tag pad
   pub found : a.finding ≡ finding a.syndrome (key.columns m) key.width
-  pub put_right : now-text ≡ mended a.finding text
+  pub put_right : now_text ≡ mended a.finding text

@@ -1,9 +1,8 @@
 //! One changed bit found by its syndrome, and put right.
 #![tactic(auto)]
 
-ghost use Rattle.bits.specs.Columns.{place, units as unit_columns};
+ghost use Rattle.bits.specs.Columns.{place};
 ghost use Rattle.family.specs.Admission.{length_questions, reach_number, text_questions};
-ghost use Rattle.family.specs.Meaning.{digest_of};
 ghost use Rattle.family.specs.Questions.{Asked};
 ghost use Rattle.mending.specs.Mending.{Received, finding as finding_of, mended, syndrome as syndrome_of};
 ghost use Rattle.std.specs.Prelude.{◌≡◌};

@@ -44,7 +44,7 @@ impl<F: Family> Parity<F> {
     }
 }
 
-// A layer that was laid leaves room for its bit. No type can say so, and so each method also answers
+// A layer that was laid leaves room for its bit. Its type does not say so, and so each method also answers
 // for a key below that leaves none, as if there were no layer.
 impl<F: Family> Family for Parity<F> {
     ghost meaning = { λ p. layered (F.Family.meaning p.below) };

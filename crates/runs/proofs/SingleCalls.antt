@@ -1,6 +1,6 @@
 -- Single calls are runs of one.
 use Rattle.std.proofs.Common.{sym, refl, ap}
-use Rattle.account.specs.Calls.{At-reader, At-door, Seal, Open, Appoint, Strike, Withdraw}
+use Rattle.account.specs.Calls.{AtReader, AtDoor, Seal, Open, Appoint, Strike, Withdraw}
 use Rattle.account.specs.Ends.{from_reader, from_door}
 use Rattle.account.proofs.Sequences.{in_sequence}
 use Rattle.runs.specs.Calls.{both}
@@ -18,15 +18,15 @@ single_calls =
           in_sequence.one (both reader e) (both reader e') (Open slot frame buffer pads) _ bytes
           (λ _ reaches. ap (from_door (both reader e)) (sym (follows reaches)));
       appoints = λ e e' key start r law follows. (
-        (λ door. in_sequence.one (both e door) (both e' door) (Appoint At-reader key start) _ law (λ _ _. ap (from_reader (both e door)) (sym follows))),
-        (λ reader. in_sequence.one (both reader e) (both reader e') (Appoint At-door key start) _ law (λ _ _. ap (from_door (both reader e)) (sym follows))),
+        (λ door. in_sequence.one (both e door) (both e' door) (Appoint AtReader key start) _ law (λ _ _. ap (from_reader (both e door)) (sym follows))),
+        (λ reader. in_sequence.one (both reader e) (both reader e') (Appoint AtDoor key start) _ law (λ _ _. ap (from_door (both reader e)) (sym follows))),
       );
       strikes = λ e e' r follows. (
-        (λ door. in_sequence.one (both e door) (both e' door) (Strike At-reader) _ tt (λ _ _. ap (from_reader (both e door)) (sym follows))),
-        (λ reader. in_sequence.one (both reader e) (both reader e') (Strike At-door) _ tt (λ _ _. ap (from_door (both reader e)) (sym follows))),
+        (λ door. in_sequence.one (both e door) (both e' door) (Strike AtReader) _ tt (λ _ _. ap (from_reader (both e door)) (sym follows))),
+        (λ reader. in_sequence.one (both reader e) (both reader e') (Strike AtDoor) _ tt (λ _ _. ap (from_door (both reader e)) (sym follows))),
       );
       withdraws = λ e e' r follows. (
-        (λ door. in_sequence.one (both e door) (both e' door) (Withdraw At-reader) _ tt (λ _ _. ap (from_reader (both e door)) (sym follows))),
-        (λ reader. in_sequence.one (both reader e) (both reader e') (Withdraw At-door) _ tt (λ _ _. ap (from_door (both reader e)) (sym follows))),
+        (λ door. in_sequence.one (both e door) (both e' door) (Withdraw AtReader) _ tt (λ _ _. ap (from_reader (both e door)) (sym follows))),
+        (λ reader. in_sequence.one (both reader e) (both reader e') (Withdraw AtDoor) _ tt (λ _ _. ap (from_door (both reader e)) (sym follows))),
       );
     }

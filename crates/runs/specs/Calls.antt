@@ -2,7 +2,7 @@
 use Rattle.std.specs.Prelude.{◌≡◌, ℕ, [], vec_items, Option}
 use Rattle.family.specs.Meaning.{Meaning}
 use Rattle.account.specs.Calls as account
-use Rattle.account.specs.Calls.{At-reader, At-door, Appoint, Strike, Withdraw, Answer, Wrote, Done}
+use Rattle.account.specs.Calls.{AtReader, AtDoor, Appoint, Strike, Withdraw, Answer, Wrote, Done}
 use Rattle.account.specs.Ends.{EndState, Ends, Reaches, reply}
 use Rattle.account.specs.Runs.{Returned}
 use Rattle.framing.specs.Refusals.{seal_refusal, open_refusal}
@@ -14,16 +14,16 @@ use Rattle.runs.specs.declared.calls.Reply.{Reply}
 use Rattle.runs.specs.declared.calls.Reply.TheVariants.{Sealed, Opened, Changed}
 
 -- a call: keys as what they mean to their families, pad sources as their words, buffers as what they hold
-module _ {F G P : Type 0} (reader-meaning : F → Meaning) (door-meaning : G → Meaning) (words : P → ℕ → Option ℕ) where
+module _ {F G P : Type 0} (reader_meaning : F → Meaning) (door_meaning : G → Meaning) (words : P → ℕ → Option ℕ) where
   abbrev pub call_of : Call F G P → account.Call
   call_of (Seal slot payload out pads) = account.Seal slot (vec_items payload) (vec_items out) (words pads)
   call_of (Open slot frame out pads) = account.Open slot (vec_items frame) (vec_items out) (words pads)
-  call_of (AppointReader key start) = Appoint At-reader (reader-meaning key) start
-  call_of StrikeReader = Strike At-reader
-  call_of WithdrawReader = Withdraw At-reader
-  call_of (AppointDoor key start) = Appoint At-door (door-meaning key) start
-  call_of StrikeDoor = Strike At-door
-  call_of WithdrawDoor = Withdraw At-door
+  call_of (AppointReader key start) = Appoint AtReader (reader_meaning key) start
+  call_of StrikeReader = Strike AtReader
+  call_of WithdrawReader = Withdraw AtReader
+  call_of (AppointDoor key start) = Appoint AtDoor (door_meaning key) start
+  call_of StrikeDoor = Strike AtDoor
+  call_of WithdrawDoor = Withdraw AtDoor
 
 -- what a caller was given: the answer, and what the output buffer then holds
 abbrev pub returned : Reply → Returned

@@ -9,9 +9,9 @@ use Rattle.runs.specs.declared.entries.Entry.TheVariants.{Asked, Told, Blank}
 use Rattle.runs.specs.Calls.{call_of, returned}
 
 -- the call that an entry asks for, if it does; entries that are told or blank ask for none
-module _ {F G P : Type 0} (reader-meaning : F → Meaning) (door-meaning : G → Meaning) (words : P → ℕ → Option ℕ) where
+module _ {F G P : Type 0} (reader_meaning : F → Meaning) (door_meaning : G → Meaning) (words : P → ℕ → Option ℕ) where
   abbrev pub asked : Entry F G P → List account.Call
-  asked (Asked call) = call_of reader-meaning door-meaning words call ∷ []
+  asked (Asked call) = call_of reader_meaning door_meaning words call ∷ []
   asked (Told reply) = []
   asked Blank = []
 

@@ -7,7 +7,7 @@ use Rattle.family.specs.Meaning.{Meaning, Lawful}
 use Rattle.account.specs.Questions.{first_refusal}
 use Rattle.account.specs.Keys.{key_questions, door_questions}
 use Rattle.account.specs.Calls as account
-use Rattle.account.specs.Calls.{Pads, At-reader, At-door, Seal, Open, Appoint, Strike, Withdraw}
+use Rattle.account.specs.Calls.{Pads, AtReader, AtDoor, Seal, Open, Appoint, Strike, Withdraw}
 use Rattle.account.specs.Account.{Creations, account_after, created}
 use Rattle.account.specs.Ends.{EndState, EndReply, Reaches, new_end, ends_of, seal_reply, open_reply, appoint_reply, strike_reply, withdraw_reply}
 use Rattle.account.specs.Promise.{Accepted}
@@ -43,8 +43,8 @@ pub record SingleCalls : Type 0 where
       → (Reaches e → opened r out e' ≡ open_reply e slot frame buffer pads)
       → DoorRun e e' (Open slot frame buffer pads) (given (opened r out e'))
   pub appoints : (e e' : EndState) (key : Meaning) (start : ℕ) (r : Result (Unit {0}) ChangeRefusal) → Lawful key → changed r e' ≡ appoint_reply e key start
-      → ReaderRun e e' (Appoint At-reader key start) (given (changed r e')) × DoorRun e e' (Appoint At-door key start) (given (changed r e'))
+      → ReaderRun e e' (Appoint AtReader key start) (given (changed r e')) × DoorRun e e' (Appoint AtDoor key start) (given (changed r e'))
   pub strikes : (e e' : EndState) (r : Result (Unit {0}) ChangeRefusal) → changed r e' ≡ strike_reply e
-      → ReaderRun e e' (Strike At-reader) (given (changed r e')) × DoorRun e e' (Strike At-door) (given (changed r e'))
+      → ReaderRun e e' (Strike AtReader) (given (changed r e')) × DoorRun e e' (Strike AtDoor) (given (changed r e'))
   pub withdraws : (e e' : EndState) (r : Result (Unit {0}) ChangeRefusal) → changed r e' ≡ withdraw_reply e
-      → ReaderRun e e' (Withdraw At-reader) (given (changed r e')) × DoorRun e e' (Withdraw At-door) (given (changed r e'))
+      → ReaderRun e e' (Withdraw AtReader) (given (changed r e')) × DoorRun e e' (Withdraw AtDoor) (given (changed r e'))

@@ -11,13 +11,16 @@ mod table;
 
 use anyhow::anyhow;
 use std::io;
+use std::process::ExitCode;
 
-fn main(rt: HostRuntime) -> anyhow::Result<()> {
-    let outcome = run(&rt);
-    if let Err(why) = &outcome {
-        eprintln!(rt; "{why}")?;
+fn main(rt: HostRuntime) -> anyhow::Result<ExitCode> {
+    match run(&rt) {
+        Ok(()) => Ok(ExitCode::SUCCESS),
+        Err(why) => {
+            eprintln!(rt; "{why}")?;
+            Ok(ExitCode::FAILURE)
+        }
     }
-    outcome
 }
 
 fn run(rt: &HostRuntime) -> anyhow::Result<()> {

@@ -6,7 +6,7 @@ use Rattle.bits.specs.Bytes.{bytes_of}
 use Rattle.bits.specs.Columns.{picked}
 use Rattle.family.specs.Meaning.{digest_of}
 use Rattle.frames.specs.Frames.{text_of, pad_of}
-use Rattle.frames.proofs.Shifts.{pads-are_pads, pad_of-lt}
+use Rattle.frames.proofs.Shifts.{pads_are_pads, pad_of-lt}
 use Rattle.pads.specs.Pad.{pad}
 use Rattle.framing.proofs.Texts.{digest_below, text-bits}
 use Rattle.framing.proofs.tags.tag.Goals as goal
@@ -27,7 +27,7 @@ returns g c =
     let low : c.in_ok-digest.digest < 2 ^ k.width =
     subst (λ (n : ℕ). n < 2 ^ k.width) (sym h.1) (digest_below k l _ m h.0.0.0 h.0.0.1) in
     let hidden : c.first_bits.result ≡ pad_of k.width c.args.word =
-    c.first_bits.ensures ∙ ap (λ (n : ℕ). pad n c.args.word) c.width.ensures ∙ sym (pads-are_pads k.width c.args.word l.narrow c.ranges.word.fits) in (
+    c.first_bits.ensures ∙ ap (λ (n : ℕ). pad n c.args.word) c.width.ensures ∙ sym (pads_are_pads k.width c.args.word l.narrow c.ranges.word.fits) in (
       h.0.0.1,
       ap (λ (x : ℕ). bit_xor x c.first_bits.result) digest ∙ ap (bit_xor (picked (text_of door slot p) (k.columns m))) hidden,
       xor_lt k.width _ _ low (subst (λ (n : ℕ). n < 2 ^ k.width) (sym hidden) (pad_of-lt k.width c.args.word)),
