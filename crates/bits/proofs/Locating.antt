@@ -1,6 +1,8 @@
 -- The place of a column: what it says of the columns, and what they say of it.
-use Rattle.std.proofs.Common.{◌≡◌, ℕ, zero, suc, ◌<◌, Bool, true, false, cond, eqb, ◌≢◌, List, [], ◌∷◌, length, get_or, Some, None, Option, sym, refl, ap, ◌∙◌, subst, arith}
-use Rattle.std.proofs.lemmas.Bool.{eqb-true, eqb-false, eq-eqb, ne_eqb, cond-true, cond-false}
+use Rattle.std.proofs.Common.{◌≡◌, ℕ, zero, suc, ◌+◌, ◌<◌, Bool, true, false, cond, eqb, ◌≢◌, List, [], ◌∷◌, length, get_or, Some, None, Option, sym, refl, ap, ap₂, ◌∙◌, subst, ⊎_elim, arith, add-one}
+use Rattle.std.specs.List.{position, position_from}
+use Rattle.std.proofs.lemmas.Bool.{eqb-true, eqb-false, eq-eqb, ne_eqb, cond-true, cond-false, cases_eq}
+use Rattle.std.proofs.lemmas.Iterator.Adapters.{position_from-zero}
 use Rattle.bits.specs.Columns.{place, one_on}
 
 -- a place that is told has the column
@@ -40,3 +42,28 @@ place_none x [] new = refl
 place_none x (c ∷ cs) new =
     cond-false (eqb x c) (Some 0) (one_on (place x cs)) (ne_eqb x c (λ q. new 0 (omega arith) (sym q)))
     ∙ ap one_on (place_none x cs (λ j l. new (suc j) (omega arith)))
+
+-- the place as the list library tells it: the first one that passes a test
+test_from_next : (t : ℕ → Bool) (i : ℕ) (cs : List ℕ) → position_from t (i + 1) cs ≡ one_on (position_from t i cs)
+test_from_next t i [] = refl
+test_from_next t i (c ∷ cs) = go (t c) (test_from_next t (i + 1) cs)
+  where
+    go : (b : Bool) → position_from t (i + 1 + 1) cs ≡ one_on (position_from t (i + 1) cs)
+        → cond b (Some (i + 1)) (position_from t (i + 1 + 1) cs) ≡ one_on (cond b (Some i) (position_from t (i + 1) cs))
+    go true e = ap Some (add-one i)
+    go false e = e
+
+same_either_way : (x c : ℕ) → eqb c x ≡ eqb x c
+same_either_way x c =
+    ⊎_elim
+    (λ (e : x ≡ c). eq-eqb c x (sym e) ∙ sym (eq-eqb x c e))
+    (λ (n : x ≡ c → ⊥). ne_eqb c x (λ e. n (sym e)) ∙ sym (ne_eqb x c n))
+    (cases_eq x c)
+
+place_from_first : (x : ℕ) (cs : List ℕ) → position_from (λ c. eqb c x) 0 cs ≡ place x cs
+place_from_first x [] = refl
+place_from_first x (c ∷ cs) =
+    ap₂ (λ b o. cond b (Some 0) o) (same_either_way x c) (test_from_next (λ d. eqb d x) 0 cs ∙ ap one_on (place_from_first x cs))
+
+pub position_place : (x : ℕ) (cs : List ℕ) → position (λ c. eqb c x) cs ≡ place x cs
+position_place x cs = position_from-zero (λ c. eqb c x) cs ∙ place_from_first x cs

@@ -1,11 +1,13 @@
 -- The unit columns: the numbers of n bits with a single one.
-use Rattle.std.proofs.Common.{◌≡◌, ℕ, zero, suc, ◌+◌, ◌-◌, ◌*◌, ◌/◌, ◌%◌, ◌^◌, ◌<◌, ◌≤◌, eqb, ◌≢◌, length, get_or, Some, None, sym, refl, ap, ◌∙◌, subst, ap₂, ⊎_elim, mod-lt, one-add, arith, pow_pos, shr_lt}
+use Rattle.std.proofs.Common.{◌≡◌, ℕ, zero, suc, ◌+◌, ◌-◌, ◌*◌, ◌/◌, ◌%◌, ◌^◌, ◌<◌, ◌≤◌, eqb, ◌≢◌, length, get_or, Some, None, sym, refl, ap, ◌∙◌, subst, ap₂, ⊎_elim, mod-lt, one-add, arith, w64, pow_pos, shr_lt}
 use lib.Count.{ones, ones_cat}
 use lib.Pow.{pow-lt, split}
 use Rattle.std.specs.List.{AllByRecursion}
 use Rattle.std.proofs.lemmas.Nat.{le-div}
 use Rattle.std.proofs.lemmas.Bool.{cases_lt, cases_eq, cond-true, cond-false, eq-eqb, ne_eqb}
 use Rattle.bits.specs.Columns.{units, place, one_on}
+use Rattle.std.specs.Int.{bit_at, trailing_zeros}
+use Rattle.std.proofs.lemmas.Nat.Bits.{bit_at-trailing_zeros, bit_at-pow_other}
 use Rattle.bits.proofs.Xors.{ones_zero, ones_one, zero_from_ones}
 
 pub length-units : (n : ℕ) → length (units n) ≡ n
@@ -62,3 +64,17 @@ place-no_unit zero x f = refl
 place-no_unit (suc k) x f =
     cond-false (eqb x (2 ^ k)) (Some 0) (one_on (place x (units k))) (ne_eqb x (2 ^ k) (λ e. f k (omega arith) (sym e)))
     ∙ ap one_on (place-no_unit k x (λ w h. f w (omega arith)))
+
+-- a number of 64 bits with a single one weighs what its lowest one does
+pub weight_of_one : (x : ℕ) → x < 2 ^ 64 → ones x ≡ 1 → 2 ^ trailing_zeros w64 x ≡ x
+weight_of_one x h e =
+    let r = unit_from_ones 64 x h e in
+    let w : ℕ = 64 - 1 - r.0 in
+    let is : 2 ^ w ≡ x = sym (get_or-units 64 r.0 r.1) ∙ r.2 in
+    let some : 0 < x = subst (λ n. 0 < n) is (pow_pos w) in
+    let low = (bit_at-trailing_zeros w64 x some h).1 in
+    ⊎_elim
+    (λ (at : trailing_zeros w64 x ≡ w). ap (λ n. 2 ^ n) at ∙ is)
+    (λ (off : trailing_zeros w64 x ≡ w → ⊥).
+    absurd (omega (arith, low, ap (λ n. bit_at n (trailing_zeros w64 x)) is, bit_at-pow_other w (trailing_zeros w64 x) off)))
+    (cases_eq (trailing_zeros w64 x) w)

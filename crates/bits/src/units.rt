@@ -6,10 +6,8 @@ ghost use Rattle.std.specs.Prelude.{◌≡◌};
 pub fn unit_place(number: u64, width: u32) -> Option<u32>
     ensures { result ≡ place number (unit_columns width) }
 {
-    for weight in 0..width.min(64) {
-        if 1u64 << weight == number {
-            return Some(width - 1 - weight);
-        }
+    if !number.is_power_of_two() {
+        return None;
     }
-    None
+    width.checked_sub(number.trailing_zeros() + 1)
 }

@@ -95,6 +95,7 @@ fn initial_state(key: &[u8; 32], nonce: &[u8; 12], counter: u32) -> [u32; 16]
 fn add_words(state: &mut [u32; 16], initial: &[u32; 16])
     ensures { state.new ≡ sums state.old initial.now }
 {
+    // Indexed on one side: nothing is known of what is written behind an adapter of `iter_mut`.
     for (i, word) in initial.iter().enumerate() {
         state[i] = state[i].wrapping_add(*word);
     }
@@ -104,6 +105,7 @@ fn serialize(state: &[u32; 16]) -> [u8; 64]
     ensures { result ≡ serialized state.now }
 {
     let mut out = [0u8; 64];
+    // As above, of `chunks_exact_mut`.
     for (i, word) in state.iter().enumerate() {
         out[4 * i..4 * i + 4].copy_from_slice(&word.to_le_bytes());
     }

@@ -9,7 +9,9 @@ ghost use Rattle.family.specs.Admission.{admission_number};
 ghost use Rattle.family.specs.Questions.{Asked};
 
 use crate::keys::{CrcKey, Generator};
-use family::{AdmissionRefusal, Family, OutOfReach, RawKey, Start, check_length, check_text};
+use family::{
+    AdmissionRefusal, Family, Orbit, OutOfReach, RawKey, Start, check_length, check_text,
+};
 
 impl CrcKey {
     // Admits a raw key, or refuses it by the first question that it fails. Its columns are remainders
@@ -32,14 +34,9 @@ impl CrcKey {
         requires { m ≤ self.now.generator.raw.reach }
         ensures { result ≡ place number (crc_columns self.now.generator.raw.degree self.now.generator.raw.coefficients m) }
     {
-        let mut column = self.generator.raw.coefficients;
-        for place in (0..m).rev() {
-            if column == number {
-                return Some(place);
-            }
-            column = self.generator.times_x(column);
-        }
-        None
+        let last = self.generator.raw.coefficients;
+        let back = Orbit::new(&self.generator, last, m).find_place(number)?;
+        Some(m - 1 - back)
     }
 }
 

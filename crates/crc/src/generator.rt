@@ -9,6 +9,7 @@ ghost use Rattle.family.specs.Meaning.{Separate};
 
 use crate::keys::Generator;
 use bits::under_mask;
+use family::{Orbit, Step};
 
 impl Generator {
     // x * a mod g: shifted, and where the term x^degree comes out, the rest of g in its place.
@@ -25,14 +26,8 @@ impl Generator {
     pub(crate) fn keeps_apart(&self) -> bool
         ensures { Decides result (Separate (crc_columns self.now.raw.degree self.now.raw.coefficients self.now.raw.reach ++ units self.now.raw.degree)) }
     {
-        let mut power = 1;
-        for _exponent in 1..self.raw.reach + self.raw.degree {
-            power = self.times_x(power);
-            if power == 1 {
-                return false;
-            }
-        }
-        true
+        let powers = (self.raw.reach + self.raw.degree) as usize;
+        !Orbit::new(self, 1, powers).comes_again()
     }
 
     // Takes the bits of one byte into a digest, highest first, as far as bits are left of the text.
@@ -59,5 +54,13 @@ impl Generator {
             left = left.saturating_sub(8);
         }
         digest
+    }
+}
+
+impl Step for Generator {
+    ghost stepped = { λ g. times_x g.raw.degree g.raw.coefficients };
+
+    fn step(&self, a: u64) -> u64 {
+        self.times_x(a)
     }
 }

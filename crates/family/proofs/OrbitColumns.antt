@@ -1,5 +1,5 @@
 -- Columns that a function makes one from another.
-use Rattle.std.proofs.Common.{◌≡◌, ℕ, zero, suc, ◌+◌, ◌-◌, ◌^◌, ◌<◌, ◌≤◌, ◌≢◌, List, ◌++◌, length, get_or, sym, refl, ap, ◌∙◌, suc-add, zero-add, add-one, arith, pow_pos}
+use Rattle.std.proofs.Common.{◌≡◌, ℕ, zero, suc, ◌+◌, ◌-◌, ◌^◌, ◌<◌, ◌≤◌, ◌≢◌, List, ◌++◌, length, get_or, sym, refl, ap, ◌∙◌, suc-add, zero-add, arith, pow_pos}
 use lib.Count.{ones}
 use Rattle.std.specs.List.{AllByRecursion}
 use Rattle.bits.specs.Columns.{units}
@@ -21,10 +21,6 @@ module _ (f : ℕ → ℕ) where
   pub iterate_suc : (k a : ℕ) → iterate f (suc k) a ≡ f (iterate f k a)
   iterate_suc zero a = refl
   iterate_suc (suc k) a = iterate_suc k (f a)
-
-  -- the same, as the step of a loop
-  pub iterate_more : (k a b c : ℕ) → b ≡ iterate f k a → c ≡ f b → c ≡ iterate f (k + 1) a
-  iterate_more k a b c p q = q ∙ ap f p ∙ sym (iterate_suc k a) ∙ ap (λ n. iterate f n a) (sym (add-one k))
 
   pub iterate_add : (d i a : ℕ) → iterate f (d + i) a ≡ iterate f i (iterate f d a)
   iterate_add zero i a = ap (λ n. iterate f n a) (zero-add i)

@@ -3,3 +3,4 @@ pub mod Meaning
 pub mod Questions
 pub mod Admission
 pub mod Orbits
+pub mod Stepped

@@ -2,17 +2,22 @@
 ghost use Rattle.family.specs.Admission.{admission_number, reach_number};
 ghost use Rattle.std.specs.Prelude.{◌≡◌};
 
-use std::error::Error;
-use std::fmt;
+use thiserror::Error;
 
 // What is wrong with a raw key: the first of its numbers that is out of its range, or its columns.
-#[derive(Clone, Copy, Debug, PartialEq, Eq)]
+#[derive(Clone, Copy, Debug, PartialEq, Eq, Error)]
 pub enum AdmissionRefusal {
+    #[error("the degree is not 3 to 63")]
     Degree,
+    #[error("the coefficient number is 2^degree or more")]
     Coefficients,
+    #[error("the coefficient of x^0 is zero")]
     LowestCoefficient,
+    #[error("the state does not fit the family")]
     State,
+    #[error("the wanted reach is not 1 to 1016")]
     Reach,
+    #[error("two of the columns and unit columns are equal, or one is zero")]
     Columns,
 }
 
@@ -31,26 +36,10 @@ impl AdmissionRefusal {
     }
 }
 
-impl fmt::Display for AdmissionRefusal {
-    fn fmt<W: fmt::Write>(&self, f: &mut fmt::Formatter<W>) -> fmt::Result {
-        let words = match self {
-            AdmissionRefusal::Degree => "the degree is not 3 to 63",
-            AdmissionRefusal::Coefficients => "the coefficient number is 2^degree or more",
-            AdmissionRefusal::LowestCoefficient => "the coefficient of x^0 is zero",
-            AdmissionRefusal::State => "the state does not fit the family",
-            AdmissionRefusal::Reach => "the wanted reach is not 1 to 1016",
-            AdmissionRefusal::Columns =>
-                "two of the columns and unit columns are equal, or one is zero",
-        };
-        f.write_str(words)
-    }
-}
-
-impl Error for AdmissionRefusal {}
-
 // A digest or a search was asked for a text length that is not 1 to the reach, or that the bytes do
 // not hold.
-#[derive(Clone, Copy, Debug, PartialEq, Eq)]
+#[derive(Clone, Copy, Debug, PartialEq, Eq, Error)]
+#[error("the text length is not 1 to the reach, or the bytes do not hold it")]
 pub struct OutOfReach;
 
 impl OutOfReach {
@@ -60,11 +49,3 @@ impl OutOfReach {
         8
     }
 }
-
-impl fmt::Display for OutOfReach {
-    fn fmt<W: fmt::Write>(&self, f: &mut fmt::Formatter<W>) -> fmt::Result {
-        f.write_str("the text length is not 1 to the reach, or the bytes do not hold it")
-    }
-}
-
-impl Error for OutOfReach {}

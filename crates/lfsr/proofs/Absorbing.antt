@@ -1,26 +1,23 @@
 -- One more bit of a text taken into a digest.
-use Rattle.std.proofs.Common.{◌≡◌, ℕ, zero, suc, ◌-◌, ◌/◌, ◌%◌, ◌^◌, ◌<◌, Bool, cond, eqb, List, ◌++◌, sym, ap, ◌∙◌, ap₂, sub-one, arith}
+use Rattle.std.proofs.Common.{◌≡◌, ℕ, zero, suc, ◌-◌, ◌/◌, ◌%◌, ◌^◌, ◌<◌, Bool, cond, eqb, List, [], ◌∷◌, ◌++◌, sym, ap, ◌∙◌, sub-one, arith}
 use lib.Bits.{bit_xor, xor_assoc}
 use Rattle.bits.specs.Bits.{bits_of}
 use Rattle.bits.specs.Columns.{picked}
 use Rattle.bits.proofs.Picks.{picked-nil}
-use Rattle.family.specs.Orbits.{orbit}
+use Rattle.lfsr.specs.Digests.{comes_to}
 
-module _ (f : ℕ → ℕ) (byte : ℕ) where
-  -- the bit at place k - 1 of a byte, where bits are left
-  pub bit_absorbed : (k left d a e b : ℕ) (rest : List Bool) → 0 < k → 0 < left → b ≡ f a → e ≡ bit_xor d (cond (eqb (byte / 2 ^ (k - 1) % 2) 1) a 0)
-      → bit_xor e (picked (bits_of (k - 1) byte ++ rest) (orbit f (left - 1) b)) ≡ bit_xor d (picked (bits_of k byte ++ rest) (orbit f left a))
-  unfolding bits_of
-  bit_absorbed zero left d a e b rest h g p q = absurd (omega arith)
-  bit_absorbed (suc j) zero d a e b rest h g p q = absurd (omega arith)
-  bit_absorbed (suc j) (suc m) d a e b rest h g p q =
-      let j1 : suc j - 1 ≡ j = sub-one (suc j) in
-      let m1 : suc m - 1 ≡ m = sub-one (suc m) in
-      ap₂ (λ x y. bit_xor e (picked (bits_of x byte ++ rest) (orbit f y b))) j1 m1
-      ∙ ap₂ (λ x y. bit_xor x (picked (bits_of j byte ++ rest) (orbit f m y))) (q ∙ ap (λ x. bit_xor d (cond (eqb (byte / 2 ^ x % 2) 1) a 0)) j1) p
-      ∙ xor_assoc d (cond (eqb (byte / 2 ^ j % 2) 1) a 0) (picked (bits_of j byte ++ rest) (orbit f m (f a)))
+-- the bit at place k - 1 of a byte, where a column is left for it
+pub bit_absorbed : (byte k d e x : ℕ) (all columns : List ℕ) (rest : List Bool) → 0 < k → all ≡ x ∷ columns → e ≡ bit_xor d (cond (eqb (byte / 2 ^ (k - 1) % 2) 1) x 0)
+    → comes_to e columns (bits_of (k - 1) byte ++ rest) ≡ comes_to d all (bits_of k byte ++ rest)
+unfolding bits_of
+bit_absorbed byte zero d e x all columns rest h l q = absurd (omega arith)
+bit_absorbed byte (suc j) d e x all columns rest h l q =
+    let j1 : suc j - 1 ≡ j = sub-one (suc j) in
+    ap (λ n. bit_xor e (picked (bits_of n byte ++ rest) columns)) j1
+    ∙ ap (λ y. bit_xor y (picked (bits_of j byte ++ rest) columns)) (q ∙ ap (λ n. bit_xor d (cond (eqb (byte / 2 ^ n % 2) 1) x 0)) j1)
+    ∙ xor_assoc d (cond (eqb (byte / 2 ^ j % 2) 1) x 0) (picked (bits_of j byte ++ rest) columns)
+    ∙ sym (ap (λ cs. bit_xor d (picked (bits_of (suc j) byte ++ rest) cs)) l)
 
-  -- no bit left: what follows does not matter
-  pub none_left : (left a d : ℕ) (xs ys : List Bool) → left ≡ 0 → bit_xor d (picked xs (orbit f left a)) ≡ bit_xor d (picked ys (orbit f left a))
-  none_left zero a d xs ys e = ap (bit_xor d) (picked-nil xs ∙ sym (picked-nil ys))
-  none_left (suc m) a d xs ys e = absurd (omega arith)
+-- no column left: what follows does not matter
+pub none_left : (d : ℕ) (all : List ℕ) (xs ys : List Bool) → all ≡ [] → comes_to d [] xs ≡ comes_to d all ys
+none_left d all xs ys l = ap (bit_xor d) (picked-nil xs ∙ sym (picked-nil ys)) ∙ sym (ap (λ cs. bit_xor d (picked ys cs)) l)

@@ -1,18 +1,16 @@
 -- States followed by the bit that makes their ones even.
-use Rattle.std.specs.Prelude.{◌≡◌, ℕ, ◌+◌, ◌*◌, ◌/◌, ◌%◌, ◌^◌, ◌<◌, Bool, true, false, cond, ◌≢◌, List, [], ◌∷◌, ◌++◌, map, length, Some, None, ◌==◌, bit_xor, count_ones, slice_index, refl}
-use Rattle.std.proofs.Common.{sym, ap, ◌∙◌, ⊎_elim, arith, add-one, pow-suc}
+use Rattle.std.specs.Prelude.{◌≡◌, ℕ, ◌+◌, ◌*◌, ◌/◌, ◌%◌, ◌^◌, ◌<◌, List, ◌++◌, map, length, bit_xor, count_ones, slice_index}
+use Rattle.std.proofs.Common.{sym, ap, ◌∙◌, arith, add-one, pow-suc}
 use Rattle.std.proofs.lemmas.Nat.{xor_block, ones_cat}
-use Rattle.std.specs.List.{AllByRecursion}
 use Rattle.std.proofs.lemmas.List.{length-map, get_or-map}
-use Rattle.std.proofs.lemmas.Bool.{cond-true, cond-false, eq-eqb, ne_eqb, cases_eq}
-use Rattle.bits.specs.Columns.{picked, place, one_on, units}
+use Rattle.bits.specs.Columns.{units}
 use Rattle.bits.proofs.Xors.{ones_xor, xor_digit, ones_zero, ones_digit}
 use Rattle.family.specs.Meaning.{Separate}
 use Rattle.family.proofs.Separates.{separate_left}
 use Rattle.family.proofs.OrbitColumns.{separate-from_units}
 use Rattle.lfsr.specs.Keys.{evened}
 
-evened-half : (a : ℕ) → evened a / 2 ≡ a
+pub evened-half : (a : ℕ) → evened a / 2 ≡ a
 unfolding evened
 evened-half a = omega arith
 
@@ -35,48 +33,12 @@ pub even_ones : (a : ℕ) → count_ones (evened a) % 2 ≡ 0
 even_ones a = omega (arith, ones_evened a)
 
 -- the ⊕ of such columns is such a column
-evened-xor : (a b : ℕ) → evened (bit_xor a b) ≡ bit_xor (evened a) (evened b)
+pub evened-xor : (a b : ℕ) → evened (bit_xor a b) ≡ bit_xor (evened a) (evened b)
 unfolding evened
 evened-xor a b =
     let low : bit_xor (count_ones a % 2) (count_ones b % 2) ≡ count_ones (bit_xor a b) % 2 =
     xor_digit (count_ones a % 2) (count_ones b % 2) (omega arith) (omega arith) ∙ omega (arith, ones_xor a b) in
     sym (xor_block 1 a b (count_ones a % 2) (count_ones b % 2) (omega arith) (omega arith) ∙ ap (λ x. bit_xor a b * 2 + x) low)
-
-evened-chosen : (b : Bool) (c : ℕ) → cond b (evened c) 0 ≡ evened (cond b c 0)
-evened-chosen true c = refl
-evened-chosen false c = sym evened-zero
-
-pub picked-evened : (bs : List Bool) (cs : List ℕ) → picked bs (map evened cs) ≡ evened (picked bs cs)
-picked-evened [] cs = sym evened-zero
-picked-evened (b ∷ bs) [] = sym evened-zero
-picked-evened (b ∷ bs) (c ∷ cs) =
-    ap (λ x. bit_xor x (picked bs (map evened cs))) (evened-chosen b c) ∙ ap (bit_xor (evened (cond b c 0))) (picked-evened bs cs)
-    ∙ sym (evened-xor (cond b c 0) (picked bs cs))
-
-pub all_evened : (n : ℕ) (cs : List ℕ) → AllByRecursion (λ c. c < 2 ^ n) cs → AllByRecursion (λ c. c < 2 ^ (n + 1)) (map evened cs)
-all_evened n [] h = tt
-all_evened n (c ∷ cs) h = (evened-lt n c h.0, all_evened n cs h.1)
-
--- the place of a number among such columns
-pub place-evened : (x : ℕ) (cs : List ℕ) → place (evened x) (map evened cs) ≡ place x cs
-place-evened x [] = refl
-place-evened x (c ∷ cs) =
-    ⊎_elim
-    (λ (e : x ≡ c).
-    cond-true (evened x == evened c) (Some 0) (one_on (place (evened x) (map evened cs))) (eq-eqb (evened x) (evened c) (ap evened e))
-    ∙ sym (cond-true (x == c) (Some 0) (one_on (place x cs)) (eq-eqb x c e)))
-    (λ (n : x ≡ c → ⊥).
-    cond-false (evened x == evened c) (Some 0) (one_on (place (evened x) (map evened cs))) (ne_eqb (evened x) (evened c) (λ e. n (evened-apart x c e)))
-    ∙ ap one_on (place-evened x cs)
-    ∙ sym (cond-false (x == c) (Some 0) (one_on (place x cs)) (ne_eqb x c n)))
-    (cases_eq x c)
-
-pub place-uneven : (x : ℕ) (cs : List ℕ) → evened (x / 2) ≢ x → place x (map evened cs) ≡ None
-place-uneven x [] n = refl
-place-uneven x (c ∷ cs) n =
-    cond-false (x == evened c) (Some 0) (one_on (place x (map evened cs)))
-    (ne_eqb x (evened c) (λ e. n (ap evened (ap (λ y. y / 2) e ∙ evened-half c) ∙ sym e)))
-    ∙ ap one_on (place-uneven x cs n)
 
 -- with their unit columns they are separate just where the states are
 module _ (n : ℕ) (cs : List ℕ) where

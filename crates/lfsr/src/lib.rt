@@ -1,11 +1,10 @@
 //! Two key families over one linear feedback shift register: Toeplitz keys and MAC-C keys.
 #![tactic(auto)]
 
+mod column;
 mod digests;
 mod evening;
 mod keys;
-mod mac_c;
 mod register;
-mod toeplitz;
 
 pub use keys::{MacCKey, ToeplitzKey};

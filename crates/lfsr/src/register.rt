@@ -5,11 +5,12 @@ ghost use Rattle.bits.specs.Columns.{place};
 ghost use Rattle.family.specs.Admission.{admission_number, form_questions};
 ghost use Rattle.family.specs.Meaning.{Separate, longest_reach};
 ghost use Rattle.family.specs.Questions.{Asked};
+ghost use Rattle.family.specs.Stepped.{left_of};
 ghost use Rattle.family.specs.declared.raw.Start.TheVariants.{Nonzero};
 ghost use Rattle.lfsr.specs.Keys.{states};
 ghost use Rattle.lfsr.specs.Register.{AnyUnit, feedback as feedback_bit, mirrored, step};
 
-use family::{AdmissionRefusal, RawKey, Start};
+use family::{AdmissionRefusal, Orbit, RawKey, Start, Step};
 
 // A raw key whose numbers are in their ranges, with its coefficients laid along the register:
 // `taps` has the coefficient of x^i where the state has s_i.
@@ -45,47 +46,41 @@ impl Register {
         ((state << 1) & mask) | u64::from(feedback)
     }
 
+    // So many states, from the first on.
+    pub fn states(&self, count: usize) -> Orbit<'_, Register>
+        ensures { left_of (λ (g : Register). step g.raw.degree g.raw.coefficients) result ≡ states self.now.raw count }
+    {
+        Orbit::new(self, self.raw.state, count)
+    }
+
     // Whether the states up to the reach are all different and none zero. The step keeps different
     // states different, so a state that comes again is the first one: each is compared with it alone.
     pub fn keeps_apart(&self) -> bool
         ensures { Decides result (Separate (states self.now.raw self.now.raw.reach)) }
     {
-        let first = self.raw.state;
-        let mut state = first;
-        for place in 0..self.raw.reach {
-            if place > 0 && state == first {
-                return false;
-            }
-            state = self.advance(state);
-        }
-        true
+        !self.states(self.raw.reach as usize).comes_again()
     }
 
     // Whether a state up to the reach is a unit column.
     pub fn meets_unit(&self) -> bool
         ensures { Decides result (AnyUnit (states self.now.raw self.now.raw.reach)) }
     {
-        let mut state = self.raw.state;
-        for _place in 0..self.raw.reach {
-            if state.count_ones() == 1 {
-                return true;
-            }
-            state = self.advance(state);
-        }
-        false
+        self.states(self.raw.reach as usize)
+            .any(|state| state.count_ones() == 1)
     }
 
     // The first of m places whose state is the number.
     pub fn find(&self, number: u64, m: usize) -> Option<usize>
         ensures { result ≡ place number (states self.now.raw m) }
     {
-        let mut state = self.raw.state;
-        for at in 0..m {
-            if state == number {
-                return Some(at);
-            }
-            state = self.advance(state);
-        }
-        None
+        self.states(m).find_place(number)
+    }
+}
+
+impl Step for Register {
+    ghost stepped = { λ g. step g.raw.degree g.raw.coefficients };
+
+    fn step(&self, state: u64) -> u64 {
+        self.advance(state)
     }
 }

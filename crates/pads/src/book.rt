@@ -23,13 +23,9 @@ impl PadSource for PadBook<'_> {
     ghost words = { λ b slot. book_words b.words.now slot };
 
     fn word(&self, slot: u32) -> Result<u64, PadFault> {
-        let uncovered = PadFault { slot };
-        let Some(place) = slot.checked_sub(1) else {
-            return Err(uncovered);
-        };
-        match self.words.get(place as usize) {
-            Some(word) => Ok(*word),
-            None => Err(uncovered),
-        }
+        slot.checked_sub(1)
+            .and_then(|place| self.words.get(place as usize))
+            .copied()
+            .ok_or(PadFault { slot })
     }
 }

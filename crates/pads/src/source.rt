@@ -2,11 +2,11 @@
 ghost use Rattle.std.specs.Prelude.{◌≡◌, ℕ, Option};
 ghost use Rattle.pads.specs.Source.{told, answer};
 
-use std::error::Error;
-use std::fmt;
+use thiserror::Error;
 
 // The source does not cover the slot that it was asked for.
-#[derive(Clone, Copy, PartialEq, Eq, Debug)]
+#[derive(Clone, Copy, Debug, PartialEq, Eq, Error)]
+#[error("the pad source does not cover slot {slot}")]
 pub struct PadFault {
     pub slot: u32,
 }
@@ -19,15 +19,6 @@ impl PadFault {
         10
     }
 }
-
-impl fmt::Display for PadFault {
-    fn fmt<W: fmt::Write>(&self, f: &mut fmt::Formatter<W>) -> fmt::Result {
-        let slot = self.slot;
-        write!(f, "the pad source does not cover slot {slot}")
-    }
-}
-
-impl Error for PadFault {}
 
 pub trait PadSource {
     // The word of each slot that the source covers; absent for a slot that it does not cover.

@@ -1,31 +1,32 @@
--- `unit_place`: the weight that is the number gives the place; no number of 64 bits has a weight beyond them.
-use Rattle.std.proofs.Common.{◌≡◌, ◌^◌, ◌<◌, ◌≤◌, sym, ap, ◌∙◌, ⊎_elim, arith, pow_mono, below_more}
-use Rattle.std.proofs.lemmas.Nat.{one_shl}
-use Rattle.std.proofs.lemmas.Bool.{cases_lt}
+-- `unit_place`: only a number with a single one is a unit column, and the place of that one tells which.
+use Rattle.std.proofs.Common.{◌≡◌, ℕ, ◌+◌, ◌-◌, ◌^◌, ◌<◌, ◌≤◌, Option, Some, None, sym, ap, ◌∙◌, ⊎_elim, arith, w64, count_ones}
+use lib.Pow.{pow-lt}
+use Rattle.std.specs.Int.{trailing_zeros}
+use Rattle.std.specs.Option.{SomeIff}
+use Rattle.std.proofs.lemmas.Bool.{cases_lt, eqb-true, eqb-false}
 use Rattle.bits.specs.Columns.{place, units}
-use Rattle.bits.proofs.UnitColumns.{place-unit, place-no_unit}
+use Rattle.bits.proofs.UnitColumns.{place-unit, place-no_unit, ones_power, weight_of_one}
 use Rattle.bits.proofs.units.unit_place.Goals as goal
 
-pub returns-then-weight-number : goal.returns-then-weight-number
-returns-then-weight-number c =
-    let w = c.loop-weight.weight in
-    let n = c.args.width in
-    let below : w < n = omega arith in
-    let is : 2 ^ w ≡ c.args.number = sym (one_shl w 64 (omega arith)) ∙ c.if-weight-number.true in
-    sym (place-unit n w below) ∙ ap (λ x. place x (units n)) is
+pub returns-then-not-is_power_of_two : goal.returns-then-not-is_power_of_two
+returns-then-not-is_power_of_two c =
+    let x = c.args.number in
+    sym (place-no_unit c.args.width x (λ w h e. eqb-false (count_ones x) 1 (sym c.if-not-is_power_of_two.ensures) (sym (ap count_ones e) ∙ ones_power w)))
 
-pub loop-weight-preserved : goal.loop-weight-preserved
-loop-weight-preserved c =
-    let w = c.loop-weight.weight in
-    below_more (λ v. 2 ^ v ≡ c.args.number → ⊥) _ c.loop-weight.invariant
-    (λ e. c.if-weight-number.false (one_shl w 64 (omega arith) ∙ e))
+-- the weight w of the one, and its place among n unit columns, if it is below 2 ^ n
+placed : (n x w : ℕ) → 2 ^ w ≡ x → (o : Option ℕ) → SomeIff o (w + 1 ≤ n) (n - (w + 1)) → o ≡ place x (units n)
+placed n x w is None told =
+    sym (place-no_unit n x (λ v h e.
+    told (⊎_elim
+    (λ (low : w < n). omega arith)
+    (λ (high : n ≤ w). let larger : 2 ^ v < 2 ^ w = pow-lt (omega arith) in absurd (omega arith))
+    (cases_lt w n))))
+placed n x w is (Some i) told =
+    let at : i ≡ n - 1 - w = omega arith in
+    ap Some at ∙ sym (place-unit n w (omega arith)) ∙ ap (λ y. place y (units n)) is
 
 pub returns : goal.returns
 returns c =
-    let n = c.args.width in
     let x = c.args.number in
-    sym (place-no_unit n x (λ w h e.
-    ⊎_elim
-    (λ (low : w < 64). c.loop-weight.invariant w (omega arith) e)
-    (λ (high : 64 ≤ w). let large : 2 ^ 64 ≤ 2 ^ w = pow_mono high in omega arith)
-    (cases_lt w 64)))
+    placed c.args.width x (trailing_zeros w64 x) (weight_of_one x c.ranges.number.fits (eqb-true (count_ones x) 1 (sym c.if-not-is_power_of_two.ensures)))
+    c.checked_sub.result c.checked_sub.ensures

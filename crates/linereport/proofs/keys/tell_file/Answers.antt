@@ -3,7 +3,7 @@ use Rattle.std.proofs.lemmas.Result.{err_from_is_err_and}
 use Rattle.linefile.specs.declared.key.KeyFamily.TheVariants.{Crc, Toeplitz, MacC}
 use Rattle.linefile.specs.Parsed.{contents_of}
 use Rattle.crc.specs.Admitted.{crc_key}
-use Rattle.lfsr.specs.Admitted.{toeplitz_key, mac_c_key}
+use Rattle.lfsr.specs.Keys.{toeplitz, mac_c}
 use Rattle.linereport.proofs.KeyTelling.{not_admitted, admitted}
 use Rattle.linereport.proofs.keys.tell_file.Goals as goal
 
@@ -30,9 +30,9 @@ returns-in_ok-admit-in-Crc c =
 pub returns-in_ok-admit-in-Toeplitz : goal.returns-in_ok-admit-in-Toeplitz
 returns-in_ok-admit-in-Toeplitz c =
     let a = c.in_ok-admit-in-Toeplitz.ensures in
-    admitted c.args.file.now.key (contents_of c.args.file.now) Toeplitz c.raw_key-raw.result (toeplitz_key c.in_ok-admit-in-Toeplitz.field-0) _ c.in-Toeplitz.is c.raw_key-raw.ensures a.0 a.1 c.tell_laid-in-Toeplitz.ensures
+    admitted c.args.file.now.key (contents_of c.args.file.now) Toeplitz c.raw_key-raw.result (toeplitz c.in_ok-admit-in-Toeplitz.field-0.register.raw) _ c.in-Toeplitz.is c.raw_key-raw.ensures a.0 a.1 c.tell_laid-in-Toeplitz.ensures
 
 pub returns-in_ok-admit-in-MacC : goal.returns-in_ok-admit-in-MacC
 returns-in_ok-admit-in-MacC c =
     let a = c.in_ok-admit-in-MacC.ensures in
-    admitted c.args.file.now.key (contents_of c.args.file.now) MacC c.raw_key-raw.result (mac_c_key c.in_ok-admit-in-MacC.field-0) _ c.in-MacC.is c.raw_key-raw.ensures a.0 a.1 c.tell_laid-in-MacC.ensures
+    admitted c.args.file.now.key (contents_of c.args.file.now) MacC c.raw_key-raw.result (mac_c c.in_ok-admit-in-MacC.field-0.register.raw) _ c.in-MacC.is c.raw_key-raw.ensures a.0 a.1 c.tell_laid-in-MacC.ensures

@@ -1,8 +1,8 @@
--- MAC-C columns are separate just where the states are.
+-- Columns with even ones are separate just where the states are.
 use Rattle.std.proofs.Common.{◌+◌}
 use Rattle.lfsr.specs.Keys.{states}
 use Rattle.lfsr.specs.EvenOnes.{separate_evened, separate_from_evened}
-use Rattle.lfsr.proofs.mac_c.columns_differ.Goals as goal
+use Rattle.lfsr.proofs.column.EvenedColumn.differ.Goals as goal
 
 pub returns : goal.returns
 returns c =
