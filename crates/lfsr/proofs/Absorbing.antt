@@ -1,6 +1,6 @@
 -- One more bit of a text taken into a digest.
 use Rattle.std.proofs.Common.{◌≡◌, ℕ, zero, suc, ◌-◌, ◌/◌, ◌%◌, ◌^◌, ◌<◌, Bool, cond, eqb, List, [], ◌∷◌, ◌++◌, sym, ap, ◌∙◌, sub-one, arith}
-use lib.Bits.{bit_xor, xor_assoc}
+use lib.Bits.{bit_xor, xor_assoc, xor_zero_r}
 use Rattle.bits.specs.Bits.{bits_of}
 use Rattle.bits.specs.Columns.{picked}
 use Rattle.bits.proofs.Picks.{picked-nil}
@@ -19,5 +19,5 @@ bit_absorbed byte (suc j) d e x all columns rest h l q =
     ∙ sym (ap (λ cs. bit_xor d (picked (bits_of (suc j) byte ++ rest) cs)) l)
 
 -- no column left: what follows does not matter
-pub none_left : (d : ℕ) (all : List ℕ) (xs ys : List Bool) → all ≡ [] → comes_to d [] xs ≡ comes_to d all ys
-none_left d all xs ys l = ap (bit_xor d) (picked-nil xs ∙ sym (picked-nil ys)) ∙ sym (ap (λ cs. bit_xor d (picked ys cs)) l)
+pub none_left : (d : ℕ) (all : List ℕ) (xs : List Bool) → all ≡ [] → d ≡ comes_to d all xs
+none_left d all xs l = sym (xor_zero_r d) ∙ sym (ap (bit_xor d) (picked-nil xs)) ∙ sym (ap (λ cs. bit_xor d (picked xs cs)) l)
