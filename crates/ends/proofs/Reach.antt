@@ -3,6 +3,7 @@ use Rattle.std.proofs.Common.{◌≡◌, ℕ, Bool, true, false, cond, ltb, ◌�
 use Rattle.std.specs.List.{AllByRecursion}
 use Rattle.std.proofs.lemmas.Bool.{eqb-true, eqb-false, true≢false}
 use Rattle.family.specs.Meaning.{Meaning}
+use Rattle.family.specs.declared.family.Family.{Ghosts}
 use Rattle.frames.specs.Limits.{needed_reach}
 use Rattle.account.specs.Questions.{Refusal, Question, first_refusal}
 use Rattle.account.specs.Calls.{Pads, word, Answer, Wrote, Opened, Refused}
@@ -13,7 +14,11 @@ use Rattle.account.specs.Ends.{EndState, EndReply, Reaches, governed, with_keys,
 use Rattle.account.proofs.Asking.{passed}
 use Rattle.framing.specs.Refusals.{plain}
 use Rattle.ends.specs.Replies.{any_seal_reply, any_open_reply}
+use Rattle.ends.specs.States.{pending_of, end_state}
 use Rattle.ends.specs.Reaching.{ReachingLasts}
+use Rattle.ends.specs.declared.keys.ServingKey.{ServingKey}
+use Rattle.ends.specs.declared.keys.PendingKey.{PendingKey}
+use Rattle.ends.specs.declared.end.End.{End}
 use Rattle.ends.proofs.EndReplies.{seal_follows, open_follows}
 
 -- ---- from call to call
@@ -40,6 +45,25 @@ after_change None h h' full f = f refl
 at_cond : (b : Bool) (x y : Meaning) (n : ℕ) → x.reach ≡ n → y.reach ≡ n → (cond b x y).reach ≡ n
 at_cond true x y n hx hy = hx
 at_cond false x y n hx hy = hy
+
+-- the keys of an end are admitted, so it reaches
+keys_reach : {F : Type 0} {f : Ghosts F} (current : ServingKey F f) (pending : Option (PendingKey F f)) (slot : ℕ)
+    → (governing (f.meaning current.key) (pending_of f.meaning pending) slot).reach ≡ needed_reach
+unfolding governing
+keys_reach current None slot = current.reaches
+keys_reach current (Some p) slot = at_cond (ltb slot p.start) _ _ needed_reach current.reaches p.key.reaches
+
+pub end_reaches : {F R : Type 0} {f : Ghosts F} (e : End F R f) → Reaches (end_state f.meaning e)
+end_reaches e slot = keys_reach e.current e.pending slot
+
+-- so its replies are the account's
+pub end_seals : {F R : Type 0} {f : Ghosts F} (e : End F R f) (slot : ℕ) (payload buffer : List ℕ) (pads : Pads)
+    → any_seal_reply (end_state f.meaning e) slot payload buffer pads ≡ seal_reply (end_state f.meaning e) slot payload buffer pads
+end_seals {f = f} e slot payload buffer pads = seal_follows (end_state f.meaning e) slot payload buffer pads (end_reaches e)
+
+pub end_opens : {F R : Type 0} {f : Ghosts F} (e : End F R f) (slot : ℕ) (frame buffer : List ℕ) (pads : Pads)
+    → any_open_reply (end_state f.meaning e) slot frame buffer pads ≡ open_reply (end_state f.meaning e) slot frame buffer pads
+end_opens {f = f} e slot frame buffer pads = open_follows (end_state f.meaning e) slot frame buffer pads (end_reaches e)
 
 appoint_parts : (current key : Meaning) (next : Option Pending) (last start : ℕ) → ((s : ℕ) → (governing current next s).reach ≡ needed_reach)
     → first_refusal (appoint_questions next last key start) ≡ None

@@ -3,14 +3,16 @@
 #![tactic(auto)]
 
 mod door;
+mod end;
+mod keys;
 mod reader;
 mod refusals;
-mod schedule;
 mod theorems;
 
-pub use door::DoorEnd;
+pub use door::{Door, DoorEnd};
+pub use end::End;
 pub use framing::{OpenRefusal, Opened, SealRefusal};
-pub use reader::ReaderEnd;
+pub use keys::{NEEDED_REACH, NEEDED_WIDTH};
+pub use reader::{Reader, ReaderEnd};
 pub use refusals::{ChangeRefusal, DoorRefusal, KeyRefusal};
-pub use schedule::{NEEDED_REACH, NEEDED_WIDTH};
 pub use theorems::reaching_lasts;

@@ -4,12 +4,14 @@ ghost use Rattle.ends.specs.declared.refusals.ChangeRefusal.TheVariants.{Key as 
 ghost use Rattle.ends.specs.declared.refusals.DoorRefusal.TheVariants.{Key as door_key};
 ghost use Rattle.std.specs.Prelude.{◌≡◌};
 
-use std::fmt;
+use thiserror::Error;
 
 // A key that cannot serve an end.
-#[derive(Clone, Copy)]
+#[derive(Clone, Copy, Debug, Error)]
 pub enum KeyRefusal {
+    #[error("the key has fewer than 45 bits")]
     TooNarrow,
+    #[error("the key's reach is not 1016 bits")]
     WrongReach,
 }
 
@@ -24,20 +26,12 @@ impl KeyRefusal {
     }
 }
 
-impl fmt::Display for KeyRefusal {
-    fn fmt<W: fmt::Write>(&self, f: &mut fmt::Formatter<W>) -> fmt::Result {
-        let words = match self {
-            KeyRefusal::TooNarrow => "the key has fewer than 45 bits",
-            KeyRefusal::WrongReach => "the key's reach is not 1016 bits",
-        };
-        f.write_str(words)
-    }
-}
-
 // What is wrong at the creation of a door's end.
-#[derive(Clone, Copy)]
+#[derive(Clone, Copy, Debug, Error)]
 pub enum DoorRefusal {
+    #[error(transparent)]
     Key(KeyRefusal),
+    #[error("the allowance is not 0 or 1")]
     Allowance,
 }
 
@@ -52,6 +46,7 @@ impl DoorRefusal {
     }
 }
 
+// By hand, not `#[from]`: the clauses of a creation read which refusal comes of a key's.
 impl From<KeyRefusal> for DoorRefusal {
     ghost from_gives = { λ e r. r ≡ door_key e };
 
@@ -60,24 +55,21 @@ impl From<KeyRefusal> for DoorRefusal {
     }
 }
 
-impl fmt::Display for DoorRefusal {
-    fn fmt<W: fmt::Write>(&self, f: &mut fmt::Formatter<W>) -> fmt::Result {
-        match self {
-            DoorRefusal::Key(refusal) => refusal.fmt(f),
-            DoorRefusal::Allowance => f.write_str("the allowance is not 0 or 1"),
-        }
-    }
-}
-
 // What is wrong with a change of keys. `NotYetUsed`: no slot from the next key's start on was done, so the current key is not
 // struck; `AlreadyUsed`: one was, so the next key is not withdrawn.
-#[derive(Clone, Copy)]
+#[derive(Clone, Copy, Debug, Error)]
 pub enum ChangeRefusal {
+    #[error("a change of keys is already pending")]
     Pending,
+    #[error("the start is not above the last slot done")]
     StartSpent,
+    #[error(transparent)]
     Key(KeyRefusal),
+    #[error("no change of keys is pending")]
     NonePending,
+    #[error("no slot was done yet under the next key")]
     NotYetUsed,
+    #[error("a slot was done under the next key")]
     AlreadyUsed,
 }
 
@@ -96,23 +88,11 @@ impl ChangeRefusal {
     }
 }
 
+// By hand, as above: the clauses of `appoint` read it.
 impl From<KeyRefusal> for ChangeRefusal {
     ghost from_gives = { λ e r. r ≡ change_key e };
 
     fn from(wrong: KeyRefusal) -> ChangeRefusal {
         ChangeRefusal::Key(wrong)
-    }
-}
-
-impl fmt::Display for ChangeRefusal {
-    fn fmt<W: fmt::Write>(&self, f: &mut fmt::Formatter<W>) -> fmt::Result {
-        match self {
-            ChangeRefusal::Pending => f.write_str("a change of keys is already pending"),
-            ChangeRefusal::StartSpent => f.write_str("the start is not above the last slot done"),
-            ChangeRefusal::Key(refusal) => refusal.fmt(f),
-            ChangeRefusal::NonePending => f.write_str("no change of keys is pending"),
-            ChangeRefusal::NotYetUsed => f.write_str("no slot was done yet under the next key"),
-            ChangeRefusal::AlreadyUsed => f.write_str("a slot was done under the next key"),
-        }
     }
 }
