@@ -7,7 +7,7 @@ use Rattle.account.specs.Sealing.{frame_under}
 use Rattle.account.specs.Opening.{finding_under, payload_under, place_under}
 use Rattle.account.specs.Figures.{FiguresStand}
 
-pub figures-stand : FiguresStand
+pub figures_stand : FiguresStand
 unfolding bits_of bound_word tag_size governing frame_under finding_under payload_under place_under
-figures-stand =
+figures_stand =
     record { one_allowed = refl; in_the_tag = refl; none_allowed = refl; reader_created = refl; door_created = refl; door_refused = refl }

@@ -17,8 +17,8 @@ outcomes-append : (a : Account) (xs ys : List Call) → outcomes a (xs ++ ys) �
 outcomes-append a [] ys = refl
 outcomes-append a (x ∷ xs) ys = ap (λ (l : List Step). outcome a x ∷ l) (outcomes-append (outcome a x).after xs ys)
 
-pub outcomes-split : Splits
-outcomes-split a before c after = outcomes-append a before (c ∷ after)
+pub outcomes_split : Splits
+outcomes_split a before c after = outcomes-append a before (c ∷ after)
 
 -- the keys of ends that stand as an account of a run says reach every text
 reaches : (a : Account) → Sound a → Reaches (ends_of a).reader × Reaches (ends_of a).door

@@ -7,64 +7,52 @@ ghost use Rattle.account.specs.Promise.{EveryRun};
 ghost use Rattle.account.specs.Runs.{InSequence, Origins, Splits, Starts};
 
 // A refusal is that of the first question answered no.
-pub fn first_no_decides() -> u8
+#[tactic(auto, using(crate::proofs::Asking::first_no_decides))]
+pub fn first_no_decides()
     ensures { FirstNoDecides }
-{
-    0
-}
+{}
 
 // A refused call changes nothing.
-pub fn refusals_change_nothing() -> u8
+#[tactic(auto, using(crate::proofs::Refusing::refusals_change_nothing))]
+pub fn refusals_change_nothing()
     ensures { RefusalsChangeNothing }
-{
-    0
-}
+{}
 
 // Ends that stand as the account says reply as it works out.
-pub fn ends_follow() -> u8
+pub fn ends_follow()
     ensures { EndsFollow }
-{
-    0
-}
+{}
 
 // The promise, over every run from two accepted creations.
-pub fn every_run() -> u8
+pub fn every_run()
     ensures { EveryRun }
-{
-    0
-}
+{}
 
 // What is worked out for a call among others is its outcome at the account of those before it.
-pub fn outcomes_split() -> u8
+#[tactic(auto, using(crate::proofs::Sequences::outcomes_split))]
+pub fn outcomes_split()
     ensures { Splits }
-{
-    0
-}
+{}
 
 // Every sealed frame came from an accepted seal of the run.
-pub fn sealed_frames_originate() -> u8
+#[tactic(auto, using(crate::proofs::Origins::origins))]
+pub fn sealed_frames_originate()
     ensures { Origins }
-{
-    0
-}
+{}
 
 // Ends that were just created stand as the account of no calls says.
-pub fn new_ends_start() -> u8
+pub fn new_ends_start()
     ensures { Starts }
-{
-    0
-}
+{}
 
 // A single call is a run, and runs that follow each other are a run.
-pub fn runs_in_sequence() -> u8
+#[tactic(auto, using(crate::proofs::Sequences::in_sequence))]
+pub fn runs_in_sequence()
     ensures { InSequence }
-{
-    0
-}
+{}
 
 // Small runs, worked out call by call.
-pub fn figures_stand() -> u8
+#[tactic(auto, using(crate::proofs::Figures::figures_stand))]
+pub fn figures_stand()
     ensures { FiguresStand }
-{
-    0
-}
+{}

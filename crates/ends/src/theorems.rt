@@ -2,6 +2,7 @@
 ghost use Rattle.ends.specs.Reaching.{ReachingLasts};
 
 // The keys of every created end reach every text, and go on doing so: such an end never answers `OutOfReach`.
+#[tactic(auto, using(crate::proofs::Reach::reaching_lasts))]
 pub fn reaching_lasts()
     ensures { ReachingLasts }
 {}

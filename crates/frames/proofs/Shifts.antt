@@ -5,12 +5,13 @@ use Rattle.bits.specs.Bits.{Bytes, bits_of, bits, weight}
 use Rattle.bits.specs.Bytes.{bytes_of}
 use Rattle.bits.specs.Columns.{picked, units}
 use Rattle.bits.proofs.BytesOfNumbers.{bits-bytes_of, number_of, bits-number_of}
+use Rattle.bits.proofs.OnesOfBits.{take-bits_of}
 use Rattle.bits.proofs.Picks.{picked_none}
 use Rattle.bits.proofs.Runs.{length-bits_of, bits-append, picked-units, bits_of-mod, bits_of-add}
 use Rattle.bits.proofs.Weights.{weight-zero}
 use Rattle.pads.specs.Pad.{pad as word_pad}
 use Rattle.frames.specs.Frames.{bound_word, tag_size, spare, pad_of}
-use Rattle.frames.specs.Changed.{PadsArePads}
+use Rattle.frames.specs.Changed.{PadsArePads, PadsAreFirstBits}
 use Rattle.frames.proofs.Parts.{tag_room}
 
 -- the bound word as eight bytes
@@ -23,6 +24,11 @@ bound_word-bytes door slot =
 pub pads_are_pads : PadsArePads
 pads_are_pads n w h l =
     let e : ◌≡◌ {A = ℕ} 64 (n + (64 - n)) = omega arith in mod-eq_of_lt (shr_below w n (64 - n) (subst (λ (k : ℕ). w < 2 ^ k) e l))
+
+-- and its first bits
+pub pads_are_first_bits : PadsAreFirstBits
+pads_are_first_bits n word h =
+    let sum : n + (64 - n) ≡ 64 = omega arith in sym (take-bits_of n (64 - n) word) ∙ ap (λ (k : ℕ). take n (bits_of k word)) sum
 
 pub pad_of-lt : (n w : ℕ) → pad_of n w < 2 ^ n
 pad_of-lt n w = mod-lt (word_pad n w) (pow_pos n)

@@ -2,16 +2,14 @@
 ghost use Rattle.frames.specs.Changed.{FramesShow, PadsAreFirstBits, PadsArePads};
 
 // What a frame with so many changed bits shows.
-pub fn frames_show() -> u8
+#[tactic(auto, using(crate::proofs::Copying::frames_show))]
+pub fn frames_show()
     ensures { FramesShow }
-{
-    0
-}
+{}
 
 // The pad of a frame is the pad of the width, for every word of 64 bits, and has its first bits.
-pub fn pads_are_pads() -> u8
+#[tactic(auto, using(crate::proofs::Shifts::pads_are_pads, crate::proofs::Shifts::pads_are_first_bits))]
+pub fn pads_are_pads()
     ensures pads { PadsArePads }
     ensures bits { PadsAreFirstBits }
-{
-    0
-}
+{}

@@ -1,5 +1,5 @@
 -- Entries answered so far.
-use Rattle.std.proofs.Common.{◌≡◌, ℕ, ◌+◌, ◌<◌, ◌≤◌, List, [], ◌∷◌, ◌++◌, length, get_or, take, drop, set, Option, sym, refl, ap, ◌∙◌, subst, ap₂, append_assoc, append-nil, add-zero, arith, length-set, length-take, get_or-drop, take_all}
+use Rattle.std.proofs.Common.{◌≡◌, ℕ, ◌+◌, ◌<◌, List, [], ◌∷◌, ◌++◌, length, get_or, take, drop, set, Option, sym, refl, ap, ◌∙◌, subst, ap₂, append_assoc, append-nil, add-zero, arith, length-set, length-take, get_or-drop}
 use Rattle.std.proofs.lemmas.List.{take_more, take_more_set, drop-set-lt, drop-drop}
 use Rattle.family.specs.Meaning.{Meaning}
 use Rattle.account.specs.Calls as account
@@ -66,18 +66,3 @@ module _ {F G P : Type 0} (m : F → Meaning) (m' : G → Meaning) (w : P → �
             (subst (λ (l : List Returned). Kept found (all_asked m m' w (take i xs) ++ asked m m' w x) l there) replies
             (in_sequence.and_then found here there (all_asked m m' w (take i xs)) (asked m m' w x) (all_told (take i xs) (take i ys)) (told x y) was.kept next));
       }
-
-  pub all_answered : (found here : Ends) (xs ys : List (Entry F G P)) (i : ℕ) → length ys ≤ i → Answering m m' w found xs ys i here
-      → Kept found (all_asked m m' w xs) (all_told xs ys) here
-  all_answered found here xs ys i past was =
-      let same_length = was.long in
-      let past' : length xs ≤ i = omega arith in
-      subst (λ (l : List (Entry F G P)). Kept found (all_asked m m' w l) (all_told l ys) here) (take_all i xs past')
-      (subst (λ (l : List (Entry F G P)). Kept found (all_asked m m' w (take i xs)) (all_told (take i xs) l) here) (take_all i ys past) was.kept)
-
-  pub all_became : (found here : Ends) (xs ys : List (Entry F G P)) (i : ℕ) → length ys ≤ i → Answering m m' w found xs ys i here → AllBecome xs ys
-  all_became found here xs ys i past was =
-      let same_length = was.long in
-      let past' : length xs ≤ i = omega arith in
-      subst (λ (l : List (Entry F G P)). AllBecome l ys) (take_all i xs past')
-      (subst (λ (l : List (Entry F G P)). AllBecome (take i xs) l) (take_all i ys past) was.become)

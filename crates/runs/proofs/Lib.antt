@@ -1,4 +1,3 @@
--- Lemmas on one call, and on entries answered so far.
-mod Stepping
+-- Lemmas on entries answered so far, and on single calls.
 mod Answering
 mod SingleCalls

@@ -1,9 +1,9 @@
 -- The calls of a run and what they were answered, in the account's words.
-use Rattle.std.specs.Prelude.{◌≡◌, ℕ, [], vec_items, Option}
+use Rattle.std.specs.Prelude.{ℕ, [], vec_items, Option}
 use Rattle.family.specs.Meaning.{Meaning}
 use Rattle.account.specs.Calls as account
 use Rattle.account.specs.Calls.{AtReader, AtDoor, Appoint, Strike, Withdraw, Answer, Wrote, Done}
-use Rattle.account.specs.Ends.{EndState, Ends, Reaches, reply}
+use Rattle.account.specs.Ends.{EndState, Ends, Replied}
 use Rattle.account.specs.Runs.{Returned}
 use Rattle.framing.specs.Refusals.{seal_refusal, open_refusal}
 use Rattle.ends.specs.Refusals.{change_refusal}
@@ -35,7 +35,6 @@ returned (Changed r) = record { answer = answered (λ _. Done) change_refusal r;
 abbrev pub both : EndState → EndState → Ends
 both reader door = record { reader = reader; door = door }
 
--- ends whose keys reach every text, as those of every created end do, reply to a call as the account's ends do
-abbrev pub Replies : Ends → account.Call → Returned → Ends → Type 0
-Replies found call r left =
-    Reaches found.reader → Reaches found.door → reply found call ≡ record { answer = r.answer; buffer = r.buffer; after = left }
+-- what a caller was given and how the ends are left, as a reply
+abbrev pub replied : Returned → Ends → Replied
+replied r left = record { answer = r.answer; buffer = r.buffer; after = left }

@@ -1,7 +1,9 @@
 //! One call of a run.
+ghost use Rattle.account.specs.Ends.{reply};
 ghost use Rattle.account.specs.Promise.{Proper};
 ghost use Rattle.ends.specs.States.{door_state, reader_state};
-ghost use Rattle.runs.specs.Calls.{Replies, both, call_of, returned};
+ghost use Rattle.runs.specs.Calls.{both, call_of, replied, returned};
+ghost use Rattle.std.specs.Prelude.{◌≡◌};
 
 use crate::calls::{Call, Reply};
 use bits::hold_bytes;
@@ -36,7 +38,7 @@ pub fn step<F: Family + Drop, G: Family + Drop, P: PadSource + Drop>(
     door: &mut DoorEnd<G>,
     call: Call<F, G, P>,
 ) -> Reply
-    ensures { Replies (both (reader_state F.Family.meaning reader.old) (door_state G.Family.meaning door.old)) (call_of F.Family.meaning G.Family.meaning P.words call) (returned result) (both (reader_state F.Family.meaning reader.new) (door_state G.Family.meaning door.new)) }
+    ensures { reply (both (reader_state F.Family.meaning reader.old) (door_state G.Family.meaning door.old)) (call_of F.Family.meaning G.Family.meaning P.words call) ≡ replied (returned result) (both (reader_state F.Family.meaning reader.new) (door_state G.Family.meaning door.new)) }
 {
     match call {
         Call::Seal {
