@@ -7,7 +7,7 @@ ghost use Rattle.std.specs.Prelude.{◌≡◌};
 use thiserror::Error;
 
 // A key that cannot serve an end.
-#[derive(Clone, Copy, Debug, Error)]
+#[derive(Clone, Copy, Debug, PartialEq, Eq, Error)]
 pub enum KeyRefusal {
     #[error("the key has fewer than 45 bits")]
     TooNarrow,
@@ -27,7 +27,7 @@ impl KeyRefusal {
 }
 
 // What is wrong at the creation of a door's end.
-#[derive(Clone, Copy, Debug, Error)]
+#[derive(Clone, Copy, Debug, PartialEq, Eq, Error)]
 pub enum DoorRefusal {
     #[error(transparent)]
     Key(KeyRefusal),
@@ -57,7 +57,7 @@ impl From<KeyRefusal> for DoorRefusal {
 
 // What is wrong with a change of keys. `NotYetUsed`: no slot from the next key's start on was done, so the current key is not
 // struck; `AlreadyUsed`: one was, so the next key is not withdrawn.
-#[derive(Clone, Copy, Debug, Error)]
+#[derive(Clone, Copy, Debug, PartialEq, Eq, Error)]
 pub enum ChangeRefusal {
     #[error("a change of keys is already pending")]
     Pending,

@@ -1,23 +1,22 @@
--- The questions of opening, stage by stage, and the payload that is written.
-use Rattle.std.proofs.Common.{◌≡◌, ℕ, ◌+◌, ◌-◌, ◌*◌, ◌/◌, ◌<◌, ◌≤◌, leb, List, ◌∷◌, ◌++◌, length, take, drop, is_some, Some, None, Option, sym, refl, ap, ◌∙◌, subst, ap₂, arith, length-take, take_at, drop_at, le-leb}
-use native.Mathlib.Nat.{sub-zero}
+-- What the questions of opening come to, and the payload that is written.
+use Rattle.std.proofs.Common.{◌≡◌, ℕ, ◌+◌, ◌-◌, ◌*◌, ◌/◌, ◌≤◌, leb, List, ◌∷◌, length, take, is_some, Some, None, Ok, Option, Result, sym, refl, ap, ◌∙◌, subst, ap₂, arith, length-take, le-leb}
 use lib.Bits.{bit_xor, xor_assoc, xor_comm}
-use borrow.Author.Tests.{lt-leb}
-use borrow.Rule.Slice.PartMut.{post_of}
 use Rattle.std.proofs.lemmas.List.{set_past}
-use Rattle.bits.specs.Bits.{flip}
 use Rattle.bits.specs.Columns.{picked, units}
 use Rattle.bits.proofs.BytesOfNumbers.{length-flip}
 use Rattle.family.specs.Meaning.{Meaning}
 use Rattle.frames.specs.Findings.{Finding, Clean, Column, UnitColumn, Nowhere, finding, mended, told_place}
 use Rattle.frames.specs.Frames.{text_size, pad_of, text_of, tag_of, payload_size, payload_of, tag_bits, syndrome}
-use Rattle.account.specs.Questions.{Refusal, Question, first_refusal}
+use Rattle.account.specs.Questions.{Refusal, first_refusal}
 use Rattle.account.specs.Calls.{Pads, word}
 use Rattle.account.specs.Sealing.{pad_question}
 use Rattle.account.specs.Opening.{finding_under, payload_under, place_under, read_questions, judge_questions}
 use Rattle.framing.specs.Asked.{frame_questions, put_in_front, reach_question, turned_over}
 use Rattle.framing.specs.Refusals.{plain}
-use Rattle.account.proofs.Verdicts.{next, stops, decides, past, none_then, refused-then}
+use Rattle.framing.proofs.PadAnswers.{a_word}
+use Rattle.pads.specs.Source.{answer}
+use Rattle.pads.specs.declared.source.PadFault.{PadFault}
+use Rattle.account.proofs.Verdicts.{past, none_then}
 
 -- the tag that arrived, ⊕ the tag that is expected, is the syndrome
 xor_turn : (t d p : ℕ) → bit_xor t (bit_xor d p) ≡ bit_xor (bit_xor t p) d
@@ -26,79 +25,64 @@ xor_turn t d p = ap (bit_xor t) (xor_comm d p) ∙ sym (xor_assoc t p d)
 payload-fits : (n : ℕ) (frame : List ℕ) → length (payload_of n frame) ≡ payload_size n frame
 payload-fits n frame = length-take (payload_size n frame) frame ∙ omega arith
 
-module _ (k : Meaning) (number c slot : ℕ) (frame : List ℕ) (room : ℕ) (pads : Pads) (width : ℕ) (ew : width ≡ k.width) where
-  abbrev verdict : Option Refusal → Type 0
-  verdict v = first_refusal (frame_questions k number c slot frame room pads) ≡ v
+-- what is known once a frame is read, its pad word is there and its tag was made anew
+module _ (k : Meaning) (number c slot : ℕ) (frame : List ℕ) (room : ℕ) (pads : Pads) (width len tag w again expected : ℕ) (ew : width ≡ k.width)
+    (read : (first_refusal (read_questions width frame room) ≡ None)
+    × ((len ≡ payload_size width frame) × (tag ≡ picked (tag_bits width frame) (units width)) × (len ≤ room)))
+    (answered : ◌≡◌ {A = Result ℕ PadFault} (Ok w) (answer (pads slot) slot))
+    (made : (text_size (length (take len frame)) ≤ k.reach) × (again ≡ k.width)
+    × (expected ≡ tag_of (k.columns (text_size (length (take len frame)))) (pad_of k.width w) number slot (take len frame))) where
+  abbrev found : Finding
+  found = finding_under k (word (pads slot)) number slot frame
 
-  abbrev rest : List Question
-  rest =
-      pad_question pads slot 25 ∷ reach_question k (payload_size k.width frame)
-      ∷ judge_questions c (finding_under k (word (pads slot)) number slot frame)
+  abbrev size : ℕ
+  size = payload_size k.width frame
 
-  at_key : (v : Option Refusal) → first_refusal (read_questions width frame room) ≡ v → first_refusal (read_questions k.width frame room) ≡ v
-  at_key v h = ap (λ (n : ℕ). first_refusal (read_questions n frame room)) (sym ew) ∙ h
+  covered : pads slot ≡ Some w
+  covered = a_word (pads slot) slot w answered
 
-  pub not_read : (t : Refusal) → first_refusal (read_questions width frame room) ≡ Some t → verdict (Some t)
+  pub len_is : len ≡ size
+  len_is = read.1.0 ∙ ap (λ (n : ℕ). payload_size n frame) ew
+
+  payload-is : take len frame ≡ payload_of k.width frame
+  payload-is = ap (λ (n : ℕ). take n frame) len_is
+
+  long : length (take len frame) ≡ size
+  long = ap length payload-is ∙ payload-fits k.width frame
+
+  near_size : text_size size ≤ k.reach
+  near_size = subst (λ (n : ℕ). text_size n ≤ k.reach) long made.0
+
+  syndrome-is : bit_xor tag expected ≡ syndrome k.width (k.columns (text_size size)) (pad_of k.width (word (pads slot))) number slot frame
+  syndrome-is =
+      let payload = payload_of k.width frame in
+      ap₂ bit_xor
+      (read.1.1 ∙ ap (λ (n : ℕ). picked (tag_bits n frame) (units n)) ew)
+      (made.2
+      ∙ ap₂ (λ (n : ℕ) (p : List ℕ). tag_of (k.columns (text_size n)) (pad_of k.width w) number slot p) long payload-is
+      ∙ ap (λ (o : Option ℕ). tag_of (k.columns (text_size size)) (pad_of k.width (word o)) number slot payload) (sym covered))
+      ∙ xor_turn (picked (tag_bits k.width frame) (units k.width)) (picked (text_of number slot payload) (k.columns (text_size size)))
+      (pad_of k.width (word (pads slot)))
+
+  finding_is : finding k.width (k.columns (text_size len)) (bit_xor tag expected) ≡ found
+  unfolding finding_under
+  finding_is = ap₂ (λ (n s : ℕ). finding k.width (k.columns (text_size n)) s) len_is syndrome-is
+
+  pub judged_so : (v : Option Refusal)
+      → first_refusal (judge_questions c (finding k.width (k.columns (text_size len)) (bit_xor tag expected))) ≡ v
+      → first_refusal (frame_questions k number c slot frame room pads) ≡ v
   unfolding frame_questions
-  not_read t h = refused-then (read_questions k.width frame room) rest t (at_key (Some t) h)
+  judged_so v j =
+      let same : first_refusal (judge_questions c found) ≡ v = ap (λ (f : Finding). first_refusal (judge_questions c f)) (sym finding_is) ∙ j in
+      none_then (read_questions k.width frame room) (pad_question pads slot 25 ∷ reach_question k size ∷ judge_questions c found)
+      (ap (λ (n : ℕ). first_refusal (read_questions n frame room)) (sym ew) ∙ read.0)
+      ∙ past (is_some (pads slot)) (record { number = 25; slot = Some slot }) (reach_question k size ∷ judge_questions c found) v (ap is_some covered)
+      (past (leb (text_size size) k.reach) (plain 8) (judge_questions c found) v (le-leb (text_size size) k.reach near_size) same)
 
-  module _ (read : first_refusal (read_questions width frame room) ≡ None) where
-    pub not_covered : pads slot ≡ None → verdict (Some (record { number = 25; slot = Some slot }))
-    unfolding frame_questions
-    not_covered h = none_then (read_questions k.width frame room) rest (at_key None read) ∙ decides rest _ (stops (ap is_some h))
-
-    module _ (w len : ℕ) (covered : pads slot ≡ Some w) (el : len ≡ payload_size width frame) where
-      pub len_is : len ≡ payload_size k.width frame
-      len_is = el ∙ ap (λ (n : ℕ). payload_size n frame) ew
-
-      pub not_reached : (text_size len ≤ k.reach → ⊥) → verdict (Some (plain 8))
-      unfolding frame_questions
-      not_reached h =
-          let e = len_is in
-          let far : k.reach < text_size (payload_size k.width frame) = omega arith in
-          none_then (read_questions k.width frame room) rest (at_key None read)
-          ∙ decides rest _ (next (ap is_some covered) (stops (lt-leb (text_size (payload_size k.width frame)) k.reach far)))
-
-      module _ (tag expected : ℕ) (et : tag ≡ picked (tag_bits width frame) (units width))
-          (ee : expected ≡ tag_of (k.columns (text_size (length (take len frame)))) (pad_of k.width w) number slot (take len frame))
-          (near : text_size len ≤ k.reach) where
-        near_size : text_size (payload_size k.width frame) ≤ k.reach
-        near_size = subst (λ (n : ℕ). text_size n ≤ k.reach) len_is near
-
-        syndrome-is : bit_xor tag expected
-            ≡ syndrome k.width (k.columns (text_size (payload_size k.width frame))) (pad_of k.width (word (pads slot))) number slot frame
-        syndrome-is =
-            let size = payload_size k.width frame in
-            let payload = payload_of k.width frame in
-            ap₂ bit_xor
-            (et ∙ ap (λ (n : ℕ). picked (tag_bits n frame) (units n)) ew)
-            (ee
-            ∙ ap (λ (n : ℕ). tag_of (k.columns (text_size (length (take n frame)))) (pad_of k.width w) number slot (take n frame)) len_is
-            ∙ ap (λ (n : ℕ). tag_of (k.columns (text_size n)) (pad_of k.width w) number slot payload) (payload-fits k.width frame)
-            ∙ ap (λ (o : Option ℕ). tag_of (k.columns (text_size size)) (pad_of k.width (word o)) number slot payload) (sym covered))
-            ∙ xor_turn (picked (tag_bits k.width frame) (units k.width)) (picked (text_of number slot payload) (k.columns (text_size size)))
-            (pad_of k.width (word (pads slot)))
-
-        pub finding_is : finding k.width (k.columns (text_size len)) (bit_xor tag expected) ≡ finding_under k (word (pads slot)) number slot frame
-        unfolding finding_under
-        finding_is =
-            ap₂ (λ (n s : ℕ). finding k.width (k.columns (text_size n)) s) len_is syndrome-is
-
-        pub judged_so : (v : Option Refusal)
-            → first_refusal (judge_questions c (finding k.width (k.columns (text_size len)) (bit_xor tag expected))) ≡ v → verdict v
-        unfolding frame_questions
-        judged_so v j =
-            let found = finding_under k (word (pads slot)) number slot frame in
-            let size = payload_size k.width frame in
-            let same : first_refusal (judge_questions c found) ≡ v = ap (λ (f : Finding). first_refusal (judge_questions c f)) (sym finding_is) ∙ j in
-            none_then (read_questions k.width frame room) rest (at_key None read)
-            ∙ past (is_some (pads slot)) (record { number = 25; slot = Some slot }) (reach_question k size ∷ judge_questions c found) v (ap is_some covered)
-            (past (leb (text_size size) k.reach) (plain 8) (judge_questions c found) v (le-leb (text_size size) k.reach near_size) same)
-
-        pub told_so : (place : Option ℕ) → place ≡ told_place (finding k.width (k.columns (text_size len)) (bit_xor tag expected)) len
-            → place ≡ place_under k (word (pads slot)) number slot frame
-        unfolding place_under
-        told_so place e = e ∙ ap₂ told_place finding_is len_is
+  pub told_so : (place : Option ℕ) → place ≡ told_place (finding k.width (k.columns (text_size len)) (bit_xor tag expected)) len
+      → place ≡ place_under k (word (pads slot)) number slot frame
+  unfolding place_under
+  told_so place e = e ∙ ap₂ told_place finding_is len_is
 
 -- ---- what is written
 
@@ -115,11 +99,6 @@ mended-is (Column p) payload L e = refl
 mended-is (UnitColumn k) payload L e = set_past payload ((8 * L + k) / 8) _ (omega arith)
 mended-is Nowhere payload L e = refl
 
-pub payload-turned : (p out X Y : List ℕ) (q : ℕ) → X ≡ p → Y ≡ flip (take (length p - 0) (X ++ post_of 0 (length p - 0) out)) q
-    → Y ++ post_of 0 (length p - 0) (X ++ post_of 0 (length p - 0) out) ≡ put_in_front (flip p q) out
-payload-turned p out X Y q same turned =
-    rw (turned, same, sub-zero (length p), take_at p (drop (length p) out) (length p) refl, drop_at p (drop (length p) out) (length p) refl, length-flip p q)
-
 module _ (k : Meaning) (w number slot : ℕ) (frame : List ℕ) (len : ℕ) (el : len ≡ payload_size k.width frame) where
   pub payload_length : len ≡ length (payload_under k w number slot frame)
   unfolding payload_under
@@ -127,10 +106,10 @@ module _ (k : Meaning) (w number slot : ℕ) (frame : List ℕ) (len : ℕ) (el 
       el ∙ sym (length-mended (finding_under k w number slot frame) (payload_of k.width frame) ∙ payload-fits k.width frame)
 
   pub payload_written : (out out' : List ℕ) (place : Option ℕ) → place ≡ place_under k w number slot frame
-      → out' ≡ put_in_front (turned_over (take (len - 0) frame) place) out → out' ≡ put_in_front (payload_under k w number slot frame) out
+      → out' ≡ put_in_front (turned_over (take len frame) place) out → out' ≡ put_in_front (payload_under k w number slot frame) out
   unfolding payload_under place_under
   payload_written out out' place ep wrote =
       let n = k.width in
       wrote
-      ∙ ap₂ (λ (m : ℕ) (o : Option ℕ). put_in_front (turned_over (take m frame) o) out) (sub-zero len ∙ el) ep
+      ∙ ap₂ (λ (m : ℕ) (o : Option ℕ). put_in_front (turned_over (take m frame) o) out) el ep
       ∙ ap (λ (p : List ℕ). put_in_front p out) (mended-is (finding_under k w number slot frame) (payload_of n frame) (payload_size n frame) (payload-fits n frame))

@@ -2,45 +2,21 @@
 ghost use Rattle.std.specs.Prelude.{◌≡◌, ◌≤◌, length};
 ghost use Rattle.account.specs.Calls.{word};
 ghost use Rattle.account.specs.Opening.{payload_under, place_under};
-ghost use Rattle.frames.specs.Frames.{payload_size};
 ghost use Rattle.framing.specs.Asked.{Answers, frame_questions, put_in_front, turned_over};
 ghost use Rattle.framing.specs.Refusals.{open_refusal};
 
+use crate::reading::Arrived;
 use crate::refusals::OpenRefusal;
-use crate::{reading, tags};
+use crate::tags::{Tag, TagWidth};
 use bits::flip_bit;
 use family::Family;
 use pads::PadSource;
 
 // What was opened: how many bytes the payload has, and the place in payload and tag whose bit was changed on the way, if one was.
-#[derive(Clone, Copy)]
+#[derive(Clone, Copy, Debug, PartialEq, Eq)]
 pub struct Opened {
     pub len: usize,
     pub mended: Option<usize>,
-}
-
-// What a frame gives under a key, where there is room for so many bytes. Nothing is written yet.
-fn examine<F: Family, P: PadSource>(
-    key: &F,
-    door: u32,
-    allowance: u8,
-    slot: u32,
-    frame: &[u8],
-    room: usize,
-    pads: &P,
-) -> Result<Opened, OpenRefusal>
-    ensures { Answers open_refusal (frame_questions (F.meaning key.now) door allowance slot frame.now room (P.words pads.now)) result
-        (λ o. (o.len ≡ payload_size (F.meaning key.now).width frame.now)
-        × (o.mended ≡ place_under (F.meaning key.now) (word (P.words pads.now slot)) door slot frame.now)
-        × (o.len ≤ room) × (o.len ≤ length frame.now))
-        (Unit {0}) }
-{
-    let arrived = reading::read_frame(key.width(), frame, room)?;
-    let len = arrived.len;
-    let word = pads.word(slot)?;
-    let expected = tags::tag(key, door, slot, &frame[0..len], word)?;
-    let mended = reading::judge(key, allowance, len, arrived.tag ^ expected)?;
-    Ok(Opened { len, mended })
 }
 
 // Writes a payload, with the bit at `mended` turned over where it is one of the payload's.
@@ -49,14 +25,15 @@ fn write_payload(payload: &[u8], mended: Option<usize>, out: &mut [u8])
     ensures { out.new ≡ put_in_front (turned_over payload.now mended) out.old }
 {
     let len = payload.len();
-    out[0..len].copy_from_slice(payload);
+    out[..len].copy_from_slice(payload);
     if let Some(place) = mended {
-        flip_bit(&mut out[0..len], place);
+        flip_bit(&mut out[..len], place);
     }
 }
 
 // Opens a frame for a slot at a door: writes its payload, mended where that is allowed, at the front of `out`. Whether the slot
 // was opened before is the end's to ask.
+#[tactic(auto, unfolding(crate::specs::Asked::frame_questions))]
 pub fn open_frame<F: Family, P: PadSource>(
     key: &F,
     door: u32,
@@ -72,8 +49,14 @@ pub fn open_frame<F: Family, P: PadSource>(
         × (out.new ≡ put_in_front (payload_under (F.meaning key.now) (word (P.words pads.now slot)) door slot frame.now) out.old))
         (out.new ≡ out.old) }
 {
-    let opened = examine(key, door, allowance, slot, frame, out.len(), pads)?;
-    let len = opened.len;
-    write_payload(&frame[0..len], opened.mended, out);
-    Ok(opened)
+    let arrived = Arrived::read(TagWidth::of(key), frame, out.len())?;
+    let word = pads.word(slot)?;
+    let payload = &frame[..arrived.len];
+    let expected = Tag::of(key, door, slot, payload, word)?;
+    let mended = arrived.judge(key, allowance, expected)?;
+    write_payload(payload, mended, out);
+    Ok(Opened {
+        len: arrived.len,
+        mended,
+    })
 }

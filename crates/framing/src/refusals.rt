@@ -8,15 +8,20 @@ ghost use Rattle.std.specs.Prelude.{◌≡◌};
 
 use family::OutOfReach;
 use pads::PadFault;
-use std::fmt;
+use thiserror::Error;
 
 // `OutOfReach` is a digest's refusal, passed on. No end that was created answers it: its keys reach every text.
-#[derive(Clone, Copy)]
+#[derive(Clone, Copy, Debug, PartialEq, Eq, Error)]
 pub enum SealRefusal {
+    #[error("the slot is not above the last one sealed")]
     SlotSpent,
+    #[error("the payload does not have 1 to 119 bytes")]
     PayloadLength,
+    #[error("the buffer does not hold the frame")]
     NoRoom,
+    #[error("the pad source does not cover the slot")]
     NoPad(PadFault),
+    #[error("the key does not reach the text")]
     OutOfReach,
 }
 
@@ -44,6 +49,8 @@ impl SealRefusal {
     }
 }
 
+// Each refusal keeps its own `number` and `fault`: a trait would leave both tables, and ask every caller for an import. Both `From`
+// are by hand, not `#[from]`, since the clauses read which refusal comes of a fault.
 impl From<PadFault> for SealRefusal {
     ghost from_gives = { λ e r. r ≡ seal_no_pad e };
 
@@ -62,30 +69,26 @@ impl From<OutOfReach> for SealRefusal {
     }
 }
 
-impl fmt::Display for SealRefusal {
-    fn fmt<W: fmt::Write>(&self, f: &mut fmt::Formatter<W>) -> fmt::Result {
-        let words = match self {
-            SealRefusal::SlotSpent => "the slot is not above the last one sealed",
-            SealRefusal::PayloadLength => "the payload does not have 1 to 119 bytes",
-            SealRefusal::NoRoom => "the buffer does not hold the frame",
-            SealRefusal::NoPad(_) => "the pad source does not cover the slot",
-            SealRefusal::OutOfReach => "the key does not reach the text",
-        };
-        f.write_str(words)
-    }
-}
-
 // `OutOfReach` as above.
-#[derive(Clone, Copy)]
+#[derive(Clone, Copy, Debug, PartialEq, Eq, Error)]
 pub enum OpenRefusal {
+    #[error("the slot is not above the last one opened")]
     SlotSpent,
+    #[error("the frame is no payload of 1 to 119 bytes with a tag")]
     FrameLength,
+    #[error("a bit behind the tag is a one")]
     SpareBits,
+    #[error("the buffer does not hold the payload")]
     NoRoom,
+    #[error("the pad source does not cover the slot")]
     NoPad(PadFault),
+    #[error("the key does not reach the text")]
     OutOfReach,
+    #[error("the frame is changed, and no change is allowed")]
     Changed,
+    #[error("no single changed bit explains the frame")]
     Unknown,
+    #[error("the changed bit would be one that is never sent")]
     BoundWord,
 }
 
@@ -132,22 +135,5 @@ impl From<OutOfReach> for OpenRefusal {
         match refusal {
             OutOfReach => OpenRefusal::OutOfReach,
         }
-    }
-}
-
-impl fmt::Display for OpenRefusal {
-    fn fmt<W: fmt::Write>(&self, f: &mut fmt::Formatter<W>) -> fmt::Result {
-        let words = match self {
-            OpenRefusal::SlotSpent => "the slot is not above the last one opened",
-            OpenRefusal::FrameLength => "the frame is no payload of 1 to 119 bytes with a tag",
-            OpenRefusal::SpareBits => "a bit behind the tag is a one",
-            OpenRefusal::NoRoom => "the buffer does not hold the payload",
-            OpenRefusal::NoPad(_) => "the pad source does not cover the slot",
-            OpenRefusal::OutOfReach => "the key does not reach the text",
-            OpenRefusal::Changed => "the frame is changed, and no change is allowed",
-            OpenRefusal::Unknown => "no single changed bit explains the frame",
-            OpenRefusal::BoundWord => "the changed bit would be one that is never sent",
-        };
-        f.write_str(words)
     }
 }
