@@ -1,5 +1,5 @@
 -- Lists of questions: what it means to pass them, and to be refused.
-use Rattle.std.proofs.Common.{◌≡◌, ℕ, Bool, true, false, cond, ◌⊎◌, List, [], ◌∷◌, ◌++◌, Some, None, sym, refl, ap, ◌∙◌, inl, inr, arith}
+use Rattle.std.proofs.Common.{◌≡◌, Bool, true, false, cond, ◌⊎◌, List, [], ◌∷◌, ◌++◌, Some, None, sym, refl, ap, ◌∙◌, inl, inr}
 use Rattle.std.specs.List.{AllByRecursion}
 use Rattle.std.proofs.lemmas.Bool.{true≢false}
 use Rattle.account.specs.Questions.{Refusal, Question, first_refusal, Yes, FirstNo, FirstNoDecides}
@@ -13,7 +13,7 @@ passed (q ∷ qs) e = go q.passes refl e (passed qs)
     go : (b : Bool) → q.passes ≡ b → cond b (first_refusal qs) (Some q.otherwise) ≡ None → (first_refusal qs ≡ None → AllByRecursion Yes qs)
         → (q.passes ≡ true) × AllByRecursion Yes qs
     go true h k ih = (h, ih k)
-    go false h k ih = absurd (let z : ◌≡◌ {A = ℕ} 0 1 = cc in omega arith)
+    go false h k ih = absurd (cc)
 
 pub passes : (qs : List Question) → AllByRecursion Yes qs → first_refusal qs ≡ None
 passes [] h = refl
@@ -51,7 +51,7 @@ later q qs r y f =
     }
 
 first_no : (qs : List Question) (r : Refusal) → first_refusal qs ≡ Some r → FirstNo qs r
-first_no [] r e = absurd (let z : ◌≡◌ {A = ℕ} 0 1 = cc in omega arith)
+first_no [] r e = absurd (cc)
 first_no (q ∷ qs) r e = go q.passes refl e (first_no qs r)
   where
     go : (b : Bool) → q.passes ≡ b → cond b (first_refusal qs) (Some q.otherwise) ≡ Some r

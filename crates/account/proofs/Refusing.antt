@@ -1,5 +1,5 @@
 -- A refused call leaves its buffer and the account.
-use Rattle.std.proofs.Common.{◌≡◌, ℕ, List, [], ◌∷◌, ◌++◌, Some, None, Option, refl, arith}
+use Rattle.std.proofs.Common.{◌≡◌, ℕ, List, [], ◌∷◌, ◌++◌, Some, None, Option, refl}
 use Rattle.family.specs.Meaning.{Meaning}
 use Rattle.account.specs.Questions.{Refusal, first_refusal}
 use Rattle.account.specs.Calls.{word, Side, Seal, Open, Appoint, Strike, Withdraw, Refused}
@@ -13,15 +13,15 @@ Unchanged a buffer s = (r : Refusal) → s.answer ≡ Refused r → (s.buffer �
 
 no_seal : (a : Account) (e : SealedFrame) (buffer : List ℕ) (o : Option Refusal) → Unchanged a buffer (seals o a e buffer)
 no_seal a e buffer (Some q) r is = (refl, refl)
-no_seal a e buffer None r is = absurd (let z : ◌≡◌ {A = ℕ} 0 1 = cc in omega arith)
+no_seal a e buffer None r is = absurd (cc)
 
 no_open : (a : Account) (e : HandedOver) (place : Option ℕ) (buffer : List ℕ) (o : Option Refusal) → Unchanged a buffer (opens o a e place buffer)
 no_open a e place buffer (Some q) r is = (refl, refl)
-no_open a e place buffer None r is = absurd (let z : ◌≡◌ {A = ℕ} 0 1 = cc in omega arith)
+no_open a e place buffer None r is = absurd (cc)
 
 no_change : (a : Account) (side : Side) (e : EndKeys) (used : List Meaning) (o : Option Refusal) → Unchanged a [] (rekeys o a side e used)
 no_change a side e used (Some q) r is = (refl, refl)
-no_change a side e used None r is = absurd (let z : ◌≡◌ {A = ℕ} 0 1 = cc in omega arith)
+no_change a side e used None r is = absurd (cc)
 
 pub refusals_change_nothing : RefusalsChangeNothing
 refusals_change_nothing a (Seal slot payload buffer pads) =

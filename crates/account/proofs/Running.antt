@@ -190,7 +190,7 @@ module _ (d : ℕ) where
       let fe : Far a.allowance d e.key = all-has (Far a.allowance d) a.used e.key far (key_used a slot frame buffer pads e v cp hb) in
       elim (cases_lt a.allowance (weight (changed e frame))) [
         | inl many ↦
-            let (r, k) = copy_refused a slot frame buffer pads e v cp hb d fe many few in absurd (let z : ◌≡◌ {A = ℕ} 0 1 = cc in omega arith)
+            let (r, k) = copy_refused a slot frame buffer pads e v cp hb d fe many few in absurd (cc)
         | inr small ↦
             let ho =
             copy_opens a slot frame buffer pads e v cp hb d fe small (ltb-true (last_slot a AtDoor) slot y.0)

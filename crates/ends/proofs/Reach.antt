@@ -6,7 +6,7 @@ use Rattle.family.specs.Meaning.{Meaning}
 use Rattle.family.specs.declared.family.Family.{Ghosts}
 use Rattle.frames.specs.Limits.{needed_reach}
 use Rattle.account.specs.Questions.{Refusal, Question, first_refusal}
-use Rattle.account.specs.Calls.{Pads, word, Answer, Wrote, Opened, Refused}
+use Rattle.account.specs.Calls.{Pads, word, Answer, Refused}
 use Rattle.account.specs.Keys.{Pending, governing, next_key, key_questions, appoint_questions, strike_questions, withdraw_questions}
 use Rattle.account.specs.Sealing.{seal_questions}
 use Rattle.account.specs.Opening.{finding_under, open_questions}
@@ -98,7 +98,7 @@ alone h key e slot = e
 
 -- a number that no question has is no refusal's
 no_such : (n : ℕ) (qs : List Question) (r : Refusal) → AllByRecursion (λ q. q.otherwise.number ≢ n) qs → first_refusal qs ≡ Some r → r.number ≢ n
-no_such n [] r others e = absurd (let z : ◌≡◌ {A = ℕ} 0 1 = cc in omega arith)
+no_such n [] r others e = absurd (cc)
 no_such n (q ∷ qs) r others e = go q.passes e (no_such n qs r others.1)
   where
     go : (b : Bool) → cond b (first_refusal qs) (Some q.otherwise) ≡ Some r → (first_refusal qs ≡ Some r → r.number ≢ n) → r.number ≢ n
@@ -110,12 +110,6 @@ refused-with : (o : Option Refusal) (h : EndState) (slot : ℕ) (answer : Answer
 refused-with (Some s) h slot answer bytes buffer r accepts e = cc
 refused-with None h slot answer bytes buffer r accepts e = absurd (accepts r e)
 
-wrote_accepts : (n : ℕ) (s : Refusal) → Wrote n ≢ Refused s
-wrote_accepts n s e = let z : ◌≡◌ {A = ℕ} 0 1 = cc in absurd (omega arith)
-
-opened-accepts : (n : ℕ) (place : Option ℕ) (s : Refusal) → Opened n place ≢ Refused s
-opened-accepts n place s e = let z : ◌≡◌ {A = ℕ} 0 1 = cc in absurd (omega arith)
-
 seal_reached : (h : EndState) (slot : ℕ) (payload buffer : List ℕ) (pads : Pads) → Reaches h
     → (any_seal_reply h slot payload buffer pads).answer ≢ Refused (plain 8)
 seal_reached h slot payload buffer pads full e =
@@ -123,7 +117,7 @@ seal_reached h slot payload buffer pads full e =
     let said : (seal_reply h slot payload buffer pads).answer ≡ Refused (plain 8) =
     ap (λ (x : EndReply). x.answer) (sym (seal_follows h slot payload buffer pads full)) ∙ e in
     no_such 8 qs (plain 8) (eqb-false 11 8 refl, (eqb-false 12 8 refl, (eqb-false 13 8 refl, (eqb-false 14 8 refl, tt))))
-    (refused-with (first_refusal qs) h slot _ _ buffer (plain 8) (wrote_accepts _) said) refl
+    (refused-with (first_refusal qs) h slot _ _ buffer (plain 8) (λ s x. absurd (cc)) said) refl
 
 open_reached : (h : EndState) (slot : ℕ) (frame buffer : List ℕ) (pads : Pads) → Reaches h
     → (any_open_reply h slot frame buffer pads).answer ≢ Refused (plain 8)
@@ -134,7 +128,7 @@ open_reached h slot frame buffer pads full e =
     ap (λ (x : EndReply). x.answer) (sym (open_follows h slot frame buffer pads full)) ∙ e in
     no_such 8 qs (plain 8)
     (eqb-false 21 8 refl, (eqb-false 22 8 refl, (eqb-false 23 8 refl, (eqb-false 24 8 refl, (eqb-false 25 8 refl, (eqb-false 26 8 refl, (eqb-false 27 8 refl, (eqb-false 28 8 refl, tt))))))))
-    (refused-with (first_refusal qs) h slot _ _ buffer (plain 8) (opened-accepts _ _) said) refl
+    (refused-with (first_refusal qs) h slot _ _ buffer (plain 8) (λ s x. absurd (cc)) said) refl
 
 pub reaching_lasts : ReachingLasts
 reaching_lasts =

@@ -146,7 +146,7 @@ module _ (n pad door slot : ℕ) (cs payload : List ℕ) (hh : pad < 2 ^ n) (hc 
         (bits-flip p q hp lq ∙ put_back (bits payload) (bits p) q same_payload_bits h)
 
     names_none : weight Δ ≡ 0 → Names None Δ
-    names_none h q = (λ e. absurd (let z : ◌≡◌ {A = ℕ} 0 1 = cc in omega arith), λ e. absurd (true≢false (sym e ∙ none_at Δ q h)))
+    names_none h q = (λ e. absurd (cc), λ e. absurd (true≢false (sym e ∙ none_at Δ q h)))
 
     names_one : (q : ℕ) → q < 8 * length payload + n → weight (toggle Δ q) ≡ 0 → Names (Some q) Δ
     names_one q hq h j = (

@@ -12,7 +12,7 @@ use family::{Family, OutOfReach};
 use std::fmt;
 
 // What a syndrome is: zero, the column of a text place, the unit column of a tag place, or none of these.
-#[derive(Clone, Copy)]
+#[derive(Clone, Copy, Debug, PartialEq, Eq)]
 pub enum Finding {
     Clean,
     Text(usize),
@@ -20,6 +20,7 @@ pub enum Finding {
     Unknown,
 }
 
+// By hand: the derive of messages is for errors, and a finding is none.
 impl fmt::Display for Finding {
     fn fmt<W: fmt::Write>(&self, f: &mut fmt::Formatter<W>) -> fmt::Result {
         match self {
@@ -31,7 +32,8 @@ impl fmt::Display for Finding {
     }
 }
 
-// The received tag ⊕ the pad ⊕ the digest of the received text.
+// The received tag ⊕ the pad ⊕ the digest of the received text. Text, length, tag and pad stay arguments of their own: only
+// `receive` takes them too, which writes the text, so that the two would borrow it by two structs.
 pub fn syndrome<F: Family>(
     key: &F,
     text: &[u8],
@@ -72,7 +74,7 @@ pub fn put_right(text: &mut [u8], finding: Finding)
 }
 
 // What came of a text that arrived: its syndrome, and what that found.
-#[derive(Clone, Copy)]
+#[derive(Clone, Copy, Debug, PartialEq, Eq)]
 pub struct Arrival {
     pub syndrome: u64,
     pub finding: Finding,
