@@ -1,5 +1,5 @@
 -- Lists of questions: what it means to pass them, and to be refused.
-use Rattle.std.proofs.Common.{◌≡◌, Bool, true, false, cond, ◌⊎◌, List, [], ◌∷◌, ◌++◌, Some, None, sym, refl, ap, ◌∙◌, inl, inr}
+use Rattle.std.proofs.Common.{arith, ◌≡◌, Bool, true, false, cond, ◌⊎◌, List, [], ◌∷◌, ◌++◌, Some, None, sym, refl, ap, ◌∙◌, inl, inr}
 use Rattle.std.specs.List.{AllByRecursion}
 use Rattle.std.proofs.lemmas.Bool.{true≢false}
 use Rattle.account.specs.Questions.{Refusal, Question, first_refusal, Yes, FirstNo, FirstNoDecides}
@@ -8,16 +8,11 @@ use Rattle.account.specs.Questions.{Refusal, Question, first_refusal, Yes, First
 
 pub passed : (qs : List Question) → first_refusal qs ≡ None → AllByRecursion Yes qs
 passed [] e = tt
-passed (q ∷ qs) e = go q.passes refl e (passed qs)
-  where
-    go : (b : Bool) → q.passes ≡ b → cond b (first_refusal qs) (Some q.otherwise) ≡ None → (first_refusal qs ≡ None → AllByRecursion Yes qs)
-        → (q.passes ≡ true) × AllByRecursion Yes qs
-    go true h k ih = (h, ih k)
-    go false h k ih = absurd (cc)
+passed (q ∷ qs) e = (grind arith, passed qs (grind arith))
 
 pub passes : (qs : List Question) → AllByRecursion Yes qs → first_refusal qs ≡ None
 passes [] h = refl
-passes (q ∷ qs) h = ap (λ (b : Bool). cond b (first_refusal qs) (Some q.otherwise)) h.0 ∙ passes qs h.1
+passes (q ∷ qs) h = rw h.0 (passes qs h.1)
 
 -- ---- one is answered no
 
@@ -62,9 +57,8 @@ first_no (q ∷ qs) r e = go q.passes refl e (first_no qs r)
 
 refused-after : (before : List Question) (q : Question) (after : List Question) → AllByRecursion Yes before → q.passes ≡ false
     → first_refusal (before ++ q ∷ after) ≡ Some q.otherwise
-refused-after [] q after y n = ap (λ (b : Bool). cond b (first_refusal after) (Some q.otherwise)) n
-refused-after (p ∷ before) q after y n =
-    ap (λ (b : Bool). cond b (first_refusal (before ++ q ∷ after)) (Some p.otherwise)) y.0 ∙ refused-after before q after y.1 n
+refused-after [] q after y n = rw n
+refused-after (p ∷ before) q after y n = rw y.0 (refused-after before q after y.1 n)
 
 no_first : (qs : List Question) (r : Refusal) → FirstNo qs r → first_refusal qs ≡ Some r
 no_first qs r f =

@@ -16,18 +16,8 @@ pub fn look_at<F: Family, G: Family, P: PadSource>(call: &Call<F, G, P>)
     ensures { Proper (call_of F.Family.meaning G.Family.meaning P.words call.now) }
 {
     match call {
-        Call::Seal {
-            slot: _,
-            payload,
-            out: _,
-            pads: _,
-        } => hold_bytes(payload.as_slice()),
-        Call::Open {
-            slot: _,
-            frame,
-            out: _,
-            pads: _,
-        } => hold_bytes(frame.as_slice()),
+        Call::Seal { payload, .. } => hold_bytes(payload.as_slice()),
+        Call::Open { frame, .. } => hold_bytes(frame.as_slice()),
         _ => (),
     }
 }
