@@ -1,3 +1,2 @@
--- Lemmas on the replies of ends.
-pub mod EndReplies
+-- Keys that reach.
 pub mod Reach

@@ -18,7 +18,8 @@ pub struct End<F: Family, R> {
     pub(crate) pending: Option<PendingKey<F>>,
     pub(crate) door: u32,
     pub(crate) last: u32,
-    // how many changed bits of a frame are mended: 0 at a reader's end
+    // How many changed bits of a frame are mended: 0 at a reader's end. A number, since a creation takes one and `open_frame` asks
+    // for one: an enum would be made of the one and turned into the other.
     pub(crate) allowance: u8,
     pub(crate) role: PhantomData<R>,
 }

@@ -6,7 +6,8 @@ ghost use Rattle.std.specs.Prelude.{◌≡◌};
 
 use thiserror::Error;
 
-// A key that cannot serve an end.
+// A key that cannot serve an end. Each refusal keeps its own table of numbers: a trait would leave the tables as they are, and
+// ask every caller for an import.
 #[derive(Clone, Copy, Debug, PartialEq, Eq, Error)]
 pub enum KeyRefusal {
     #[error("the key has fewer than 45 bits")]

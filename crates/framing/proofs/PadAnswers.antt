@@ -1,5 +1,5 @@
 -- What a pad source answered.
-use Rattle.std.proofs.Common.{◌≡◌, ℕ, Some, None, Ok, Option, Result, arith}
+use Rattle.std.proofs.Common.{◌≡◌, ℕ, Some, None, Ok, Option, Result}
 use Rattle.pads.specs.Source.{answer}
 use Rattle.pads.specs.declared.source.PadFault.{PadFault}
 

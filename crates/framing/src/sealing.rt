@@ -23,8 +23,9 @@ fn write_frame(payload: &[u8], tag: Tag, out: &mut [u8])
 }
 
 // Seals a payload for a slot at a door: writes its frame at the front of `out` and tells the frame's length. Whether the slot
-// was sealed before is the end's to ask.
-#[tactic(auto, unfolding(crate::specs::Asked::payload_questions, account::specs::Sealing::frame_under))]
+// was sealed before is the end's to ask. Key, door and slot stay arguments of their own: only the two public calls, whose form
+// stays, and `Tag::of` take them, and a struct of the three would be made anew at each call.
+#[tactic(auto, unfolding(crate::specs::Asked::payload_questions))]
 pub fn seal_frame<F: Family, P: PadSource>(
     key: &F,
     door: u32,

@@ -3,7 +3,8 @@
 use ends::ChangeRefusal;
 use framing::{OpenRefusal, Opened, SealRefusal};
 
-// A call at either end. F is the family of the reader's keys, G that of the door's, P the pad source.
+// A call at either end. F is the family of the reader's keys, G that of the door's, P the pad source. The keys of the two ends are
+// of two types, so that each end has an appointment of its own, and its strike and withdrawal beside it.
 #[derive(Drop)]
 pub enum Call<F, G, P> {
     Seal {
