@@ -1,10 +1,9 @@
 -- What an open makes of a copy of a sealed frame.
-use Rattle.std.proofs.Common.{◌≡◌, ℕ, ◌+◌, ◌*◌, ◌^◌, ◌<◌, ◌≤◌, true, false, ◌||◌, eqb, ltb, leb, ◌≢◌, List, length, is_some, None, Option, sym, refl, ap, ◌∙◌, subst, ap₂, inl, inr, arith}
+use Rattle.std.proofs.Common.{◌≡◌, ℕ, ◌+◌, ◌*◌, ◌^◌, ◌<◌, ◌≤◌, true, false, ◌||◌, eqb, ◌≢◌, List, length, None, Option, sym, refl, ap, ◌∙◌, subst, ap₂, inl, inr, arith}
 use Rattle.std.specs.List.{ContainsAt as Has, AllByRecursion}
 use Rattle.std.proofs.ByRecursion.{all-has}
-use Rattle.std.proofs.lemmas.Bool.{eq-eqb, lt-ltb, le-leb, and_from, or_left, or_right, or_from, ne_eqb, cases_lt}
+use Rattle.std.proofs.lemmas.Bool.{eq-eqb, or_left, or_right, or_from, ne_eqb, cases_lt}
 use Rattle.bits.specs.Bits.{Bytes, weight}
-use Rattle.frames.specs.Limits.{longest_payload}
 use Rattle.frames.specs.Frames.{tag_size, text_size, pad_of, frame_of, payload_size, payload_of, spare_bits, syndrome}
 use Rattle.frames.specs.Findings.{Finding, Clean, Column, UnitColumn, Nowhere, finding, mended, told_place, is_clean, is_somewhere, outside_bound}
 use Rattle.frames.specs.Changed.{Distant, changed_places, Restores, Shows}
@@ -15,7 +14,8 @@ use Rattle.account.specs.Calls.{Pads, word, AtDoor, Open}
 use Rattle.account.specs.Opening.{open_questions, finding_under, payload_under, place_under}
 use Rattle.account.specs.Account.{SealedFrame, Account, Step, governs, last_slot, opens, outcome}
 use Rattle.account.specs.Promise.{Copies, changed, HandsOver, IsRefused}
-use Rattle.account.proofs.Asking.{SomeNo, passes, refused-by}
+use Rattle.std.proofs.lemmas.Bool.Decides.{nat_tests}
+use Rattle.account.proofs.Asking.{SomeNo, refused-by}
 use Rattle.account.proofs.Steps.{Genuine, Sound}
 
 same_finding : {n n' : ℕ} {cs cs' : List ℕ} {p p' u u' s s' : ℕ} (frame : List ℕ) → n ≡ n' → cs ≡ cs' → p ≡ p' → u ≡ u' → s ≡ s'
@@ -133,24 +133,7 @@ module _ (a : Account) (slot : ℕ) (frame buffer : List ℕ) (pads : Pads) (e :
       → first_refusal (open_questions (last_slot a AtDoor) slot n a.allowance frame buffer pads found) ≡ None
   unfolding L
   all_yes later fits seen somewhere outside =
-      passes (open_questions (last_slot a AtDoor) slot n a.allowance frame buffer pads found) (
-        lt-ltb (last_slot a AtDoor) slot later,
-        (
-          and_from (ltb (tag_size n) (length frame)) (leb (length frame) (tag_size n + longest_payload))
-              (lt-ltb (tag_size n) (length frame) (omega (arith, size, genuine.some_bytes)))
-              (le-leb (length frame) (tag_size n + longest_payload) (omega (arith, size, genuine.short))),
-          (
-            eq-eqb (weight (spare_bits n frame)) 0 spare-zero,
-            (
-              le-leb (payload_size n frame) (length buffer) (omega (arith, size_is)),
-              (
-                ap (λ (o : Option ℕ). is_some o) cp.covered,
-                (seen, (somewhere, (outside, tt))),
-              ),
-            ),
-          ),
-        ),
-      )
+      grind (arith, nat_tests, size, size_is, spare-zero, cp.covered, genuine.some_bytes, genuine.short)
 
   restored : last_slot a AtDoor < slot → length e.payload ≤ length buffer → (is_clean found || eqb a.allowance 1) ≡ true
       → Restores found e.payload (payload_of n frame) (changed e frame)

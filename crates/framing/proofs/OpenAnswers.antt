@@ -1,6 +1,7 @@
 -- What the questions of opening come to, and the payload that is written.
-use Rattle.std.proofs.Common.{◌≡◌, ℕ, ◌+◌, ◌-◌, ◌*◌, ◌/◌, ◌≤◌, leb, List, ◌∷◌, length, take, is_some, Some, None, Ok, Option, Result, sym, refl, ap, ◌∙◌, subst, ap₂, arith, length-take, le-leb}
+use Rattle.std.proofs.Common.{◌≡◌, ℕ, ◌+◌, ◌-◌, ◌*◌, ◌/◌, ◌≤◌, List, length, take, Some, None, Ok, Option, Result, sym, refl, ap, ◌∙◌, subst, ap₂, arith, length-take}
 use lib.Bits.{bit_xor, xor_assoc, xor_comm}
+use Rattle.std.proofs.lemmas.Bool.Decides.{nat_tests}
 use Rattle.std.proofs.lemmas.List.{set_past}
 use Rattle.bits.specs.Columns.{picked, units}
 use Rattle.bits.proofs.BytesOfNumbers.{length-flip}
@@ -9,14 +10,11 @@ use Rattle.frames.specs.Findings.{Finding, Clean, Column, UnitColumn, Nowhere, f
 use Rattle.frames.specs.Frames.{text_size, pad_of, text_of, tag_of, payload_size, payload_of, tag_bits, syndrome}
 use Rattle.account.specs.Questions.{Refusal, first_refusal}
 use Rattle.account.specs.Calls.{Pads, word}
-use Rattle.account.specs.Sealing.{pad_question}
 use Rattle.account.specs.Opening.{finding_under, payload_under, place_under, read_questions, judge_questions}
-use Rattle.framing.specs.Asked.{frame_questions, put_in_front, reach_question, turned_over}
-use Rattle.framing.specs.Refusals.{plain}
+use Rattle.framing.specs.Asked.{frame_questions, put_in_front, turned_over}
 use Rattle.framing.proofs.PadAnswers.{a_word}
 use Rattle.pads.specs.Source.{answer}
 use Rattle.pads.specs.declared.source.PadFault.{PadFault}
-use Rattle.account.proofs.Verdicts.{past, none_then}
 
 -- the tag that arrived, ⊕ the tag that is expected, is the syndrome
 xor_turn : (t d p : ℕ) → bit_xor t (bit_xor d p) ≡ bit_xor (bit_xor t p) d
@@ -74,10 +72,7 @@ module _ (k : Meaning) (number c slot : ℕ) (frame : List ℕ) (room : ℕ) (pa
   unfolding frame_questions
   judged_so v j =
       let same : first_refusal (judge_questions c found) ≡ v = ap (λ (f : Finding). first_refusal (judge_questions c f)) (sym finding_is) ∙ j in
-      none_then (read_questions k.width frame room) (pad_question pads slot 25 ∷ reach_question k size ∷ judge_questions c found)
-      (ap (λ (n : ℕ). first_refusal (read_questions n frame room)) (sym ew) ∙ read.0)
-      ∙ past (is_some (pads slot)) (record { number = 25; slot = Some slot }) (reach_question k size ∷ judge_questions c found) v (ap is_some covered)
-      (past (leb (text_size size) k.reach) (plain 8) (judge_questions c found) v (le-leb (text_size size) k.reach near_size) same)
+      grind (arith, nat_tests, ew, read.0, covered, near_size, same)
 
   pub told_so : (place : Option ℕ) → place ≡ told_place (finding k.width (k.columns (text_size len)) (bit_xor tag expected)) len
       → place ≡ place_under k (word (pads slot)) number slot frame
