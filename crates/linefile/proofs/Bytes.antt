@@ -1,8 +1,8 @@
 -- The numbers of one, two, four and eight bytes, as `from_be_bytes` tells them.
-use Rattle.std.proofs.Common.{◌≡◌, ℕ, ◌+◌, ◌-◌, ◌*◌, ◌≤◌, List, [], ◌∷◌, length, get_or, take, drop, refl, ap, ◌∙◌, arith}
+use Rattle.std.proofs.Common.{◌≡◌, ℕ, ◌+◌, ◌*◌, ◌≤◌, List, [], ◌∷◌, length, get_or, take, sym, ap, ◌∙◌, arith}
 use Rattle.std.specs.Int.Digits.{number_from_digits}
-use Rattle.std.proofs.lemmas.List.{take_rest, length-drop}
-use Rattle.linefile.specs.Parsed.{Number}
+use Rattle.std.proofs.lemmas.List.{length-take-le, take-take}
+use Rattle.linefile.specs.Parsed.{Taken}
 
 pub be1 : (bs : List ℕ) → 1 ≤ length bs → number_from_digits 256 (take 1 bs) ≡ get_or bs 0 0
 be1 [] h = absurd (omega arith)
@@ -31,8 +31,10 @@ be8 (a ∷ (b ∷ (c ∷ (d ∷ (e ∷ (f ∷ [])))))) h = absurd (omega arith)
 be8 (a ∷ (b ∷ (c ∷ (d ∷ (e ∷ (f ∷ (g ∷ []))))))) h = absurd (omega arith)
 be8 (a ∷ (b ∷ (c ∷ (d ∷ (e ∷ (f ∷ (g ∷ (i ∷ r)))))))) h = omega arith
 
--- A stage that took `size` bytes by a slice pattern.
-pub numbered : (size at : ℕ) (bs : List ℕ) (v : ℕ) → size ≤ length bs → v ≡ number_from_digits 256 (take size bs) → Number size at bs v (at + size) (take (length bs - size) (drop size bs))
-numbered size at bs v h e =
-    let t = take_rest bs size in
-    record { there = h; value = e; place_is = refl; rest_is = t; kept = let l = ap length t ∙ length-drop size bs in omega arith }
+-- The bytes of a field are its number.
+pub numbered : (size at : ℕ) (bs b : List ℕ) (place : ℕ) (rest : List ℕ) (n m : ℕ) → Taken size at bs b place rest → (size ≤ length b → number_from_digits 256 (take size b) ≡ m) → n ≡ m → n ≡ number_from_digits 256 b
+numbered size at bs b place rest n m t be e =
+    let h = t.there in
+    let l = ap length t.value ∙ length-take-le size bs h in
+    let same : take size b ≡ b = ap (take size) t.value ∙ take-take size size bs (omega arith) ∙ sym t.value in
+    e ∙ sym (be (omega arith)) ∙ ap (number_from_digits 256) same

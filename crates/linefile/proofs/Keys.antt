@@ -1,16 +1,17 @@
 -- The key record: whole, faulty or cut.
-use Rattle.std.proofs.Common.{◌≡◌, ℕ, ◌+◌, ◌-◌, ◌*◌, ◌<◌, ◌≤◌, List, length, get_or, take, drop, Ok, Err, Result, sym, refl, ap, ◌∙◌, inl, inr, arith, length-drop}
+use Rattle.std.proofs.Common.{◌≡◌, ℕ, ◌+◌, ◌-◌, ◌*◌, ◌<◌, ◌≤◌, List, length, get_or, take, drop, Ok, Err, Result, MatchResult, sym, refl, ap, ◌∙◌, inl, inr, arith, length-drop}
 use Rattle.std.specs.Int.Digits.{number_from_digits}
 use Rattle.std.proofs.lemmas.List.{drop-drop, get_or-drop, take_rest}
 use Rattle.std.proofs.lemmas.Bool.{cases_lt}
 use Rattle.std.proofs.lemmas.Bool.Decides.{nat_tests}
+use Rattle.linefile.specs.declared.faults.FileFault.{FileFault}
 use Rattle.linefile.specs.declared.faults.Flaw.{Flaw}
 use Rattle.linefile.specs.declared.faults.Flaw.TheVariants.{CutShort}
 use Rattle.linefile.specs.declared.key.Kind.{Kind}
 use Rattle.linefile.specs.declared.key.KeyRecord.{KeyRecord}
 use Rattle.linefile.specs.Layout.{Layout, Bad}
 use Rattle.linefile.specs.File.{Contents, any, a_kind, an_allowance, number_field, key_record}
-use Rattle.linefile.specs.Parsed.{Past, whole_fields}
+use Rattle.linefile.specs.Parsed.{Past, Faulty, whole_fields}
 use Rattle.linefile.proofs.OneField.{number_past, number_wrong, number_cut}
 use Rattle.linefile.proofs.Bytes.{be1, be4, be8}
 
@@ -49,6 +50,15 @@ to_allowance next at bs kind h k =
 pub wrong_kind : (next : KeyRecord → Layout Contents) (at : ℕ) (bs : List ℕ) (flaw : Flaw) → 1 ≤ length bs → a_kind (number_from_digits 256 (take 1 bs)) ≡ Err flaw → key_record next at bs ≡ Bad flaw at
 unfolding key_record
 wrong_kind next at bs flaw h k = number_wrong 1 a_kind _ at bs flaw h k
+
+-- a kind that was told with the place of its field
+pub told-wrong_kind : (at : ℕ) (bs : List ℕ) (r : Result Kind Flaw) (f : FileFault) → 1 ≤ length bs → r ≡ a_kind (get_or bs 0 0) → MatchResult r (λ _. ⊥) (λ flaw. f ≡ record { flaw = flaw; place = at }) → Faulty key_record at bs f
+told-wrong_kind at bs (Ok k) f h e m = absurd m
+told-wrong_kind at bs (Err flaw) f h e m = λ next. wrong_kind next at bs flaw h (ap a_kind (be1 bs h) ∙ sym e) ∙ ap (λ g. Bad g.flaw g.place) (sym m)
+
+pub told-kind : (kind : Kind) (n : ℕ) (r : Result Kind Flaw) → r ≡ a_kind n → MatchResult r (λ k. kind ≡ k) (λ _. ⊥) → a_kind n ≡ Ok kind
+told-kind kind n (Ok k) e m = sym e ∙ ap (λ z. Ok z) (sym m)
+told-kind kind n (Err flaw) e m = absurd m
 
 pub wrong_allowance : (next : KeyRecord → Layout Contents) (at : ℕ) (bs : List ℕ) (kind : Kind) (flaw : Flaw) → 23 ≤ length bs → a_kind (number_from_digits 256 (take 1 bs)) ≡ Ok kind → an_allowance (number_from_digits 256 (take 1 (drop 22 bs))) ≡ Err flaw → key_record next at bs ≡ Bad flaw (at + 22)
 wrong_allowance next at bs kind flaw h k a =
@@ -102,5 +112,4 @@ key-past at bs kind allowance h k a c ce s se d de =
           ∙ ap (λ z. next z (at + 22 + 1) (drop 1 (drop 22 bs))) same
           ∙ ap (λ z. next (record { kind = kind; degree = get_or bs 1 0; coefficients = c; state = s; door = d; allowance = allowance }) z (drop 1 (drop 22 bs))) p
           ∙ ap (λ z. next (record { kind = kind; degree = get_or bs 1 0; coefficients = c; state = s; door = d; allowance = allowance }) (at + 23) z) (drop-drop 1 22 bs ∙ sym t);
-      kept = let m = ap length t ∙ length-drop 23 bs in omega arith;
     }

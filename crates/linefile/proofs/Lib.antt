@@ -2,6 +2,6 @@
 pub mod OneField
 mod Bytes
 mod Stages
+mod OneFrame
 mod Keys
-mod FramesInBytes
-mod Sections
+mod WholeFile

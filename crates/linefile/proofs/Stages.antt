@@ -1,19 +1,20 @@
 -- The stages of the reading, over plain values.
-use Rattle.std.proofs.Common.{◌≡◌, ℕ, suc, ◌+◌, ◌-◌, ◌<◌, ◌≤◌, min, List, [], ◌∷◌, ◌++◌, length, take, drop, Ok, Err, Result, sym, refl, ap, ◌∙◌, inl, inr, append_assoc, arith}
-use Rattle.std.proofs.lemmas.List.{append-nil, drop_all, take_all}
-use Rattle.std.proofs.lemmas.Bool.{cases_lt, cond-true, cond-false, le-leb, lt-leb, eq-eqb, ne_eqb}
+use Rattle.std.proofs.Common.{◌≡◌, ℕ, suc, ◌+◌, ◌-◌, ◌<◌, ◌≤◌, List, [], ◌∷◌, ◌++◌, drop, Ok, Err, Result, sym, ap, ◌∙◌, append_assoc, arith}
+use Rattle.std.specs.Int.Digits.{number_from_digits}
+use Rattle.std.proofs.lemmas.List.{append-nil}
+use Rattle.std.proofs.lemmas.Bool.{cond-true, cond-false, le-leb, lt-leb, eq-eqb, ne_eqb}
 use Rattle.linefile.specs.declared.faults.FileFault.{FileFault}
 use Rattle.linefile.specs.declared.faults.Flaw.{Flaw}
 use Rattle.linefile.specs.declared.faults.Flaw.TheVariants.{OutOfLimits}
 use Rattle.linefile.specs.Layout.{Layout, Part, Bad, repeated}
-use Rattle.linefile.specs.File.{Contents, any, just, up_to, number_field, pad_word}
-use Rattle.linefile.specs.Parsed.{Number, Cut, Past, Faulty}
-use Rattle.linefile.proofs.OneField.{number_past, number_wrong, number_cut}
+use Rattle.linefile.specs.File.{Contents, just, up_to, number_field, bytes_field}
+use Rattle.linefile.specs.Parsed.{Taken, Cut, Past, Faulty}
+use Rattle.linefile.proofs.OneField.{past, cut, number_past, number_wrong, number_cut}
 
 -- ---- one part, and then another
 
 pub then_past : {Y Z : Type 0} (first : Part Y Contents) (second : Y → Part Z Contents) (at : ℕ) (bs : List ℕ) (y : Y) (p : ℕ) (r : List ℕ) (z : Z) (p' : ℕ) (r' : List ℕ) → Past first at bs y p r → Past (second y) p r z p' r' → Past (λ next. first (λ v. second v next)) at bs z p' r'
-then_past first second at bs y p r z p' r' a b = record { goes = λ next. a.goes (λ v. second v next) ∙ b.goes next; kept = b.kept ∙ a.kept }
+then_past first second at bs y p r z p' r' a b = record { goes = λ next. a.goes (λ v. second v next) ∙ b.goes next }
 
 pub first_faulty : {Y Z : Type 0} (first : Part Y Contents) (second : Y → Part Z Contents) (at : ℕ) (bs : List ℕ) (f : FileFault) → Faulty first at bs f → Faulty (λ next. first (λ v. second v next)) at bs f
 first_faulty first second at bs f a next = a (λ v. second v next)
@@ -23,23 +24,39 @@ then_faulty first second at bs y p r f a b next = a.goes (λ v. second v next) �
 
 -- ---- a number
 
-pub value_past : {V : Type 0} (size at : ℕ) (bs : List ℕ) (n place : ℕ) (rest : List ℕ) (value : ℕ → Result V Flaw) (v : V) → Number size at bs n place rest → value n ≡ Ok v → Past (number_field size value) at bs v place rest
-value_past size at bs n place rest value v h e =
+pub value_past : {V : Type 0} (size at : ℕ) (bs b : List ℕ) (place : ℕ) (rest : List ℕ) (value : ℕ → Result V Flaw) (n : ℕ) (v : V) → Taken size at bs b place rest → n ≡ number_from_digits 256 b → value n ≡ Ok v → Past (number_field size value) at bs v place rest
+value_past size at bs b place rest value n v h e ok =
     record {
       goes = λ next.
-          number_past size value next at bs v h.there (ap value (sym h.value) ∙ e)
+          number_past size value next at bs v h.there (ap (λ z. value (number_from_digits 256 z)) (sym h.value) ∙ ap value (sym e) ∙ ok)
           ∙ ap (λ z. next v z (drop size bs)) (sym h.place_is)
           ∙ ap (λ z. next v place z) (sym h.rest_is);
-      kept = h.kept;
     }
 
-pub value_wrong : {V : Type 0} (size at : ℕ) (bs : List ℕ) (n place : ℕ) (rest : List ℕ) (value : ℕ → Result V Flaw) (flaw : Flaw) → Number size at bs n place rest → value n ≡ Err flaw → Faulty (number_field size value) at bs (record { flaw = flaw; place = at })
-value_wrong size at bs n place rest value flaw h e next = number_wrong size value next at bs flaw h.there (ap value (sym h.value) ∙ e)
+pub value_wrong : {V : Type 0} (size at : ℕ) (bs b : List ℕ) (place : ℕ) (rest : List ℕ) (value : ℕ → Result V Flaw) (n : ℕ) (flaw : Flaw) → Taken size at bs b place rest → n ≡ number_from_digits 256 b → value n ≡ Err flaw → Faulty (number_field size value) at bs (record { flaw = flaw; place = at })
+value_wrong size at bs b place rest value n flaw h e err next =
+    number_wrong size value next at bs flaw h.there (ap (λ z. value (number_from_digits 256 z)) (sym h.value) ∙ ap value (sym e) ∙ err)
 
 pub value_cut : {V : Type 0} (size at : ℕ) (bs : List ℕ) (value : ℕ → Result V Flaw) (f : FileFault) → Cut size at bs f → Faulty (number_field size value) at bs f
 value_cut size at bs value f c next = number_cut size value next at bs c.0 ∙ ap (λ g. Bad g.flaw g.place) (sym c.1)
 
--- what a number may be
+-- ---- bytes as they are
+
+pub bytes_past : (size at : ℕ) (bs b : List ℕ) (place : ℕ) (rest : List ℕ) → Taken size at bs b place rest → Past (bytes_field size) at bs b place rest
+unfolding bytes_field
+bytes_past size at bs b place rest h =
+    record {
+      goes = λ next.
+          past size (λ bytes. Ok bytes) next at bs b h.there (ap (λ z. Ok z) (sym h.value))
+          ∙ ap (λ z. next b z (drop size bs)) (sym h.place_is)
+          ∙ ap (λ z. next b place z) (sym h.rest_is);
+    }
+
+pub bytes_cut : (size at : ℕ) (bs : List ℕ) (f : FileFault) → Cut size at bs f → Faulty (bytes_field size) at bs f
+unfolding bytes_field
+bytes_cut size at bs f c next = cut size (λ bytes. Ok bytes) next at bs c.0 ∙ ap (λ g. Bad g.flaw g.place) (sym c.1)
+
+-- ---- what a number may be
 pub is_only : (only n : ℕ) → n ≡ only → just only n ≡ Ok only
 is_only only n e = cond-true _ _ _ (eq-eqb n only e) ∙ ap (λ z. Ok z) e
 
@@ -52,20 +69,10 @@ within most n h = cond-true _ _ _ (le-leb n most h)
 pub beyond : (most n : ℕ) → most < n → up_to most n ≡ Err OutOfLimits
 beyond most n h = cond-false _ _ _ (lt-leb n most h)
 
--- a pad word
-pub word-past : (at : ℕ) (bs : List ℕ) (v place : ℕ) (rest : List ℕ) → Number 8 at bs v place rest → Past pad_word at bs v place rest
-unfolding pad_word
-word-past at bs v place rest n = value_past 8 at bs v place rest any v n refl
-
-pub word_cut : (at : ℕ) (bs : List ℕ) (f : FileFault) → Cut 8 at bs f → Faulty pad_word at bs f
-unfolding pad_word
-word_cut at bs f c = value_cut 8 at bs any f c
-
 -- ---- a part that comes again and again: what is left gives the whole
 
 pub record SoFar {Y : Type 0} (each : Part Y Contents) (count at : ℕ) (bs : List ℕ) (i : ℕ) (items : List Y) (place : ℕ) (rest : List ℕ) : Type 0 where
   pub goes : (next : List Y → Layout Contents) → repeated each count next at bs ≡ repeated each (count - i) (λ ys. next (items ++ ys)) place rest
-  pub kept : place + length rest ≡ at + length bs
 
 pub so_none : {Y : Type 0} (each : Part Y Contents) (count at : ℕ) (bs : List ℕ) (items : List Y) → items ≡ [] → SoFar each count at bs 0 items at bs
 so_none each count at bs items e =
@@ -74,7 +81,6 @@ so_none each count at bs items e =
       goes = λ next.
           ap (λ n. repeated each n next at bs) z
           ∙ ap (λ is. repeated each (count - 0) (λ ys. next (is ++ ys)) at bs) (sym e);
-      kept = refl;
     }
 
 pub so_more : {Y : Type 0} (each : Part Y Contents) (count at : ℕ) (bs : List ℕ) (i : ℕ) (items : List Y) (place : ℕ) (rest : List ℕ) (y : Y) (place' : ℕ) (rest' : List ℕ) (items' : List Y) → SoFar each count at bs i items place rest → i < count → Past each place rest y place' rest' → items' ≡ items ++ (y ∷ []) → SoFar each count at bs (i + 1) items' place' rest'
@@ -88,7 +94,6 @@ so_more {Y = Y} each count at bs i items place rest y place' rest' items' s h p 
           ∙ p.goes (λ v. repeated each (count - (i + 1)) (λ ys. next (items ++ (v ∷ ys))))
           ∙ ap (λ g. repeated each (count - (i + 1)) g place' rest') (longer next)
           ∙ ap (λ is. repeated each (count - (i + 1)) (λ ys. next (is ++ ys)) place' rest') (sym e);
-      kept = p.kept ∙ s.kept;
     }
   where
     longer : (next : List Y → Layout Contents) → ◌≡◌ {A = List Y → Layout Contents} (λ ys. next (items ++ (y ∷ ys))) (λ ys. next ((items ++ (y ∷ [])) ++ ys))
@@ -111,23 +116,4 @@ so_all each count at bs i items place rest s h =
           s.goes next
           ∙ ap (λ k. repeated each k (λ ys. next (items ++ ys)) place rest) n
           ∙ ap (λ is. next is place rest) (append-nil items);
-      kept = s.kept;
     }
-
--- ---- lists
-
--- a part that ends at the end of the bytes, if not before
-pub clamped_take : (n m : ℕ) (bs : List ℕ) → m ≡ min n (length bs) → take n bs ≡ take (m - 0) bs
-clamped_take n m bs e =
-    let z : m ≡ m - 0 = omega arith in
-    elim (cases_lt n (length bs)) [
-      | inl h ↦ ap (λ j. take j bs) (let q : n ≡ m - 0 = omega arith in q)
-      | inr h ↦ take_all n bs h ∙ sym (take_all (m - 0) bs (omega arith))
-    ]
-
-pub clamped_drop : (n m : ℕ) (bs : List ℕ) → m ≡ min n (length bs) → drop n bs ≡ drop m bs
-clamped_drop n m bs e =
-    elim (cases_lt n (length bs)) [
-      | inl h ↦ ap (λ j. drop j bs) (let q : n ≡ m = omega arith in q)
-      | inr h ↦ drop_all n bs h ∙ sym (drop_all m bs (omega arith))
-    ]

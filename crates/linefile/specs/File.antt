@@ -134,15 +134,19 @@ sent_frame next =
     bytes_field size (λ bytes.
     next (record { slot = slot; bytes = bytes }))))
 
+-- a section of a count, up to a limit, and so many of a part
+abbrev pub counted : {Y X : Type 0} (most : ℕ) → Part Y X → Part (List Y) X
+counted most each next = number_field 2 (up_to most) (λ count. repeated each count next)
+
 -- the three sections
 unfoldable pub key_section : {X : Type 0} → Part KeyRecord X
 key_section next = number_field 1 (just key_count) (λ _. key_record next)
 
 unfoldable pub pads_section : {X : Type 0} → Part (List ℕ) X
-pads_section next = number_field 2 (up_to most_pads) (λ count. repeated pad_word count next)
+pads_section next = counted most_pads pad_word next
 
 unfoldable pub frames_section : {X : Type 0} → Part (List SentFrame) X
-frames_section next = number_field 2 (up_to most_frames) (λ count. repeated sent_frame count next)
+frames_section next = counted most_frames sent_frame next
 
 -- the whole file
 unfoldable pub line_file : Layout Contents

@@ -23,6 +23,13 @@ impl Flaw {
             Flaw::Trailing => 54,
         }
     }
+
+    // This flaw, in the field that begins at a place.
+    pub(crate) fn at(self, place: usize) -> FileFault
+        ensures { result ≡ record { flaw = self; place = place } }
+    {
+        FileFault { flaw: self, place }
+    }
 }
 
 // The first fault of a file, with the place of the first byte of the field that has it, counted from 0.

@@ -1,11 +1,10 @@
 //! The key record of a line file.
 ghost use Rattle.std.specs.Prelude.{◌≡◌, ◌<◌, ◌≤◌, length, MatchResult};
-ghost use Rattle.linefile.specs.File.{a_kind, an_allowance, key_record, key_section};
-ghost use Rattle.linefile.specs.Parsed.{Fails, Passes, Placed, whole_fields};
+ghost use Rattle.linefile.specs.File.{a_kind, key_record, key_section};
+ghost use Rattle.linefile.specs.Parsed.{Fails, Passes, whole_fields};
 
-use crate::counts::sole_count;
 use crate::faults::{FileFault, Flaw};
-use crate::fields::Left;
+use crate::left::Left;
 
 // How many keys a file has.
 const KEY_COUNT: u8 = 1;
@@ -36,28 +35,25 @@ pub struct KeyRecord {
     pub allowance: u8,
 }
 
-fn kind_numbered(number: u8) -> Result<Kind, Flaw>
-    ensures { result ≡ a_kind number }
-{
-    let (family, parity) = match number {
-        1 => (KeyFamily::Crc, false),
-        2 => (KeyFamily::Toeplitz, false),
-        3 => (KeyFamily::MacC, false),
-        17 => (KeyFamily::Crc, true),
-        18 => (KeyFamily::Toeplitz, true),
-        19 => (KeyFamily::MacC, true),
-        _ => return Err(Flaw::Unknown),
-    };
-    Ok(Kind { family, parity })
-}
+// The places in a record of the fields behind its first, from the last one back.
+const FIELD_PLACES: [usize; 5] = [22, 18, 10, 2, 1];
 
-fn allowance_numbered(number: u8) -> Result<u8, Flaw>
-    ensures { result ≡ an_allowance number }
-{
-    if number <= 1 {
-        Ok(number)
-    } else {
-        Err(Flaw::Unknown)
+impl TryFrom<u8> for Kind {
+    type Error = Flaw;
+
+    ghost try_from_gives = { λ number kind. kind ≡ a_kind number };
+
+    fn try_from(number: u8) -> Result<Kind, Flaw> {
+        let (family, parity) = match number {
+            1 => (KeyFamily::Crc, false),
+            2 => (KeyFamily::Toeplitz, false),
+            3 => (KeyFamily::MacC, false),
+            17 => (KeyFamily::Crc, true),
+            18 => (KeyFamily::Toeplitz, true),
+            19 => (KeyFamily::MacC, true),
+            _ => return Err(Flaw::Unknown),
+        };
+        Ok(Kind { family, parity })
     }
 }
 
@@ -65,41 +61,29 @@ fn allowance_numbered(number: u8) -> Result<u8, Flaw>
 fn whole_fields(there: usize) -> usize
     ensures { (result ≡ whole_fields there) × (result ≤ there) }
 {
-    if there < 1 {
-        0
-    } else if there < 2 {
-        1
-    } else if there < 10 {
-        2
-    } else if there < 18 {
-        10
-    } else if there < 22 {
-        18
-    } else {
-        22
-    }
+    FIELD_PLACES
+        .iter()
+        .find(|place| **place <= there)
+        .copied()
+        .unwrap_or(0)
 }
 
 // The first fault of a record that is cut. Its kind is looked at before what follows it.
-fn cut_key(left: Left<'_>) -> FileFault
-    requires { (Placed left) × (length left.bytes.now < 23) }
-    ensures { Fails key_record left.entry result }
+fn cut_key(left: &Left<'_>) -> FileFault
+    requires { length left.now.bytes.now < 23 }
+    ensures { Fails key_record left.now result }
 {
     let [kind, ..] = left.bytes else {
-        return left.fault(Flaw::CutShort);
+        return Flaw::CutShort.at(left.at);
     };
-    match kind_numbered(*kind) {
-        Err(flaw) => left.fault(flaw),
-        Ok(_) => FileFault {
-            flaw: Flaw::CutShort,
-            place: left.at + whole_fields(left.bytes.len()),
-        },
+    match Kind::try_from(*kind) {
+        Err(flaw) => flaw.at(left.at),
+        Ok(_) => Flaw::CutShort.at(left.at + whole_fields(left.bytes.len())),
     }
 }
 
-fn key_record(left: Left<'_>) -> Result<(KeyRecord, Left<'_>), FileFault>
-    requires { Placed left }
-    ensures { MatchResult result (λ p. Passes key_record left.entry p.0 p.1) (Fails key_record left.entry) }
+fn key_record(left: &mut Left<'_>) -> Result<KeyRecord, FileFault>
+    ensures { MatchResult result (λ key. Passes key_record left.old key left.new) (Fails key_record left.old) }
 {
     let [
         kind,
@@ -130,40 +114,33 @@ fn key_record(left: Left<'_>) -> Result<(KeyRecord, Left<'_>), FileFault>
     else {
         return Err(cut_key(left));
     };
-    let kind = match kind_numbered(*kind) {
-        Ok(kind) => kind,
-        Err(flaw) => return Err(left.fault(flaw)),
+    let place = left.at;
+    let kind = Kind::try_from(*kind).map_err(|flaw| flaw.at(place))?;
+    if *allowance > 1 {
+        return Err(Flaw::Unknown.at(place + 22));
+    }
+    *left = Left {
+        at: place + 23,
+        bytes: rest,
     };
-    let allowance = match allowance_numbered(*allowance) {
-        Ok(allowance) => allowance,
-        Err(flaw) => {
-            return Err(FileFault {
-                flaw,
-                place: left.at + 22,
-            });
-        }
-    };
-    let key = KeyRecord {
+    Ok(KeyRecord {
         kind,
         degree: *degree,
         coefficients: u64::from_be_bytes([*c0, *c1, *c2, *c3, *c4, *c5, *c6, *c7]),
         state: u64::from_be_bytes([*s0, *s1, *s2, *s3, *s4, *s5, *s6, *s7]),
         door: u32::from_be_bytes([*d0, *d1, *d2, *d3]),
-        allowance,
-    };
-    Ok((
-        key,
-        Left {
-            at: left.at + 23,
-            bytes: rest,
-        },
-    ))
+        allowance: *allowance,
+    })
 }
 
-pub(crate) fn key_section(left: Left<'_>) -> Result<(KeyRecord, Left<'_>), FileFault>
-    requires { Placed left }
-    ensures { MatchResult result (λ p. Passes key_section left.entry p.0 p.1) (Fails key_section left.entry) }
+// The count of keys, which can only be one, and the key.
+pub(crate) fn key_section(left: &mut Left<'_>) -> Result<KeyRecord, FileFault>
+    ensures { MatchResult result (λ key. Passes key_section left.old key left.new) (Fails key_section left.old) }
 {
-    let rest = sole_count(KEY_COUNT, left)?;
-    key_record(rest)
+    let place = left.at;
+    let [count] = left.take::<1>()?;
+    if count != KEY_COUNT {
+        return Err(Flaw::OutOfLimits.at(place));
+    }
+    key_record(left)
 }

@@ -5,13 +5,14 @@ ghost use Rattle.linefile.specs.Parsed.{contents_of};
 ghost use Rattle.std.specs.Prelude.{◌≡◌, MatchResult};
 
 use crate::faults::{FileFault, Flaw};
-use crate::fields::Left;
-use crate::frames::{FrameList, frames_section};
+use crate::frames::FrameList;
 use crate::key::{KeyRecord, key_section};
-use crate::pads::{PadWords, pads_section};
+use crate::left::Left;
+use crate::pads::PadWords;
+use crate::sections::section;
 
 // What a file has: a key with its door, a pad book, and frames in the order in which they came.
-#[derive(Clone, Copy)]
+#[derive(Clone, Drop)]
 pub struct LineFile<'a> {
     pub key: KeyRecord,
     pub pads: PadWords,
@@ -22,11 +23,12 @@ pub struct LineFile<'a> {
 pub fn parse<'a>(file: &'a [u8]) -> Result<LineFile<'a>, FileFault>
     ensures { MatchResult result (λ f. decode file.now ≡ Good (contents_of f)) (λ e. decode file.now ≡ Bad e.flaw e.place) }
 {
-    let (key, left) = key_section(Left { at: 0, bytes: file })?;
-    let (pads, left) = pads_section(left)?;
-    let (frames, left) = frames_section(left)?;
+    let mut left = Left { at: 0, bytes: file };
+    let key = key_section(&mut left)?;
+    let pads = section(&mut left)?;
+    let frames = section(&mut left)?;
     if !left.ends() {
-        return Err(left.fault(Flaw::Trailing));
+        return Err(Flaw::Trailing.at(left.at));
     }
     Ok(LineFile { key, pads, frames })
 }

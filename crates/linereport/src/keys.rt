@@ -1,11 +1,10 @@
 //! The key of a file: admitted, under the parity layer where its kind says so, and handed to a door's end.
-ghost use Rattle.std.specs.Prelude.{◌≡◌, ◌≤◌, length};
+ghost use Rattle.std.specs.Prelude.{◌≡◌};
 ghost use Rattle.account.specs.Keys.{door_questions};
 ghost use Rattle.ends.specs.Refusals.{door_refusal};
 ghost use Rattle.family.specs.Questions.{Asked};
 ghost use Rattle.framing.specs.Asked.{Answers};
-ghost use Rattle.linefile.specs.File.{most_frames};
-ghost use Rattle.linefile.specs.Parsed.{contents_of, frames_of};
+ghost use Rattle.linefile.specs.Parsed.{contents_of};
 ghost use Rattle.linereport.specs.Keys.{admitted_questions, laid, raw_of, record_meaning, record_questions};
 ghost use Rattle.linereport.specs.Refusals.{key_number};
 ghost use Rattle.linereport.specs.Report.{page_under};
@@ -68,17 +67,15 @@ impl From<DoorRefusal> for RefusedKey {
 
 // What a file's frames come to at a door's end with this key.
 fn tell_under<F: Family + Drop>(key: F, file: &LineFile<'_>) -> Result<Page, DoorRefusal>
-    requires { length (frames_of file.now.frames) ≤ most_frames }
     ensures { Answers door_refusal (door_questions (F.meaning key) file.now.key.allowance) result (λ page. written page ≡ page_under (F.meaning key) (contents_of file.now)) (Unit {0}) }
 {
     let mut door = DoorEnd::new(key, file.key.door, file.key.allowance)?;
     let pads = PadBook::new(file.pads.as_slice());
-    Ok(tell_frames(&mut door, file.frames, &pads))
+    Ok(tell_frames(&mut door, &file.frames, &pads))
 }
 
 // The same of a key that was admitted, under the parity layer where the file says so.
 fn tell_laid<F: Family + Drop>(key: F, file: &LineFile<'_>) -> Result<Page, RefusedKey>
-    requires { length (frames_of file.now.frames) ≤ most_frames }
     ensures { Asked (admitted_questions file.now.key.kind.parity (F.Family.meaning key) file.now.key.allowance) key_number (λ page. written page ≡ page_under (laid file.now.key.kind.parity (F.Family.meaning key)) (contents_of file.now)) result }
 {
     if file.key.kind.parity {
@@ -102,7 +99,6 @@ fn raw_key(key: &KeyRecord) -> RawKey
 
 // What the frames of a file come to under the file's own key.
 pub(crate) fn tell_file(file: &LineFile<'_>) -> Result<Page, RefusedKey>
-    requires { length (frames_of file.now.frames) ≤ most_frames }
     ensures { Asked (record_questions file.now.key) key_number (λ page. written page ≡ page_under (record_meaning file.now.key) (contents_of file.now)) result }
 {
     let raw = raw_key(&file.key);

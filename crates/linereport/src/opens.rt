@@ -1,8 +1,7 @@
 //! What a door's end makes of frames.
-ghost use Rattle.std.specs.Prelude.{◌≡◌, ◌≤◌, ◌++◌, length};
+ghost use Rattle.std.specs.Prelude.{◌≡◌, ◌++◌};
 ghost use Rattle.account.specs.Ends.{Reaches};
 ghost use Rattle.ends.specs.States.{door_state};
-ghost use Rattle.linefile.specs.File.{most_frames};
 ghost use Rattle.linefile.specs.Parsed.{frames_of, sent_of};
 ghost use Rattle.linereport.specs.Frames.{answers, frame_reply};
 ghost use Rattle.linereport.specs.Report.{frame_lines, summed_up};
@@ -35,22 +34,20 @@ fn open<F: Family + Drop, P: PadSource>(
 // Opens frames in order: a line for each, and how many there are of each sort.
 pub(crate) fn tell_frames<F: Family + Drop, P: PadSource>(
     door: &mut DoorEnd<F>,
-    frames: FrameList<'_>,
+    frames: &FrameList<'_>,
     pads: &P,
 ) -> Page
-    requires { (Reaches (door_state F.meaning door.old)) × (length (frames_of frames) ≤ most_frames) }
-    ensures { written result ≡ frame_lines (frames_of frames.entry) (answers (P.words pads.now) (door_state F.meaning door.old) (frames_of frames.entry)) ++ summed_up (totals_of (answers (P.words pads.now) (door_state F.meaning door.old) (frames_of frames.entry))) }
+    requires { Reaches (door_state F.meaning door.old) }
+    ensures { written result ≡ frame_lines (frames_of frames.now) (answers (P.words pads.now) (door_state F.meaning door.old) (frames_of frames.now)) ++ summed_up (totals_of (answers (P.words pads.now) (door_state F.meaning door.old) (frames_of frames.now))) }
 {
     let mut page = Page::blank();
     let mut totals = Totals::none();
-    let mut left = frames;
-    while let Some((frame, rest)) = left.split_first() {
-        let answer = open(door, frame, pads);
+    for frame in frames.as_slice() {
+        let answer = open(door, *frame, pads);
         let Ok(()) = page.frame_line(frame.slot, &answer) else {
             unreachable()
         };
         totals.count(&answer);
-        left = rest;
     }
     let Ok(()) = page.totals_line(&totals) else {
         unreachable()

@@ -1,7 +1,7 @@
 use Rattle.std.proofs.Common.{rules}
 use Rattle.std.proofs.lemmas.Result.{err_from_is_err_and}
 use Rattle.std.proofs.lemmas.Bool.{eqb-true, eqb-false}
-use Rattle.linefile.proofs.Sections.{key-faulty, pads-faulty, frames_faulty, trailing, finished}
+use Rattle.linefile.proofs.WholeFile.{key-faulty, pads-faulty, frames_faulty, trailing, finished}
 use Rattle.linefile.proofs.whole.parse.Goals as goal
 
 pub returns-in_err-key : goal.returns-in_err-key
@@ -21,7 +21,7 @@ returns-in_err-frames c =
 
 pub returns-then-not-ends : goal.returns-then-not-ends
 returns-then-not-ends c =
-    rw c.fault.ensures (trailing c.args.file.now c.in_ok-key.ensures c.in_ok-pads.ensures c.in_ok-frames.ensures (eqb-false _ 0 (search rules)))
+    rw c.at.ensures (trailing c.args.file.now c.in_ok-key.ensures c.in_ok-pads.ensures c.in_ok-frames.ensures (eqb-false _ 0 (search rules)))
 
 pub returns : goal.returns
 returns c = finished c.args.file.now c.in_ok-key.ensures c.in_ok-pads.ensures c.in_ok-frames.ensures (eqb-true _ 0 (search rules))

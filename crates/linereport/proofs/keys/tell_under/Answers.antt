@@ -8,12 +8,12 @@ use Rattle.linereport.proofs.keys.tell_under.Goals as goal
 pub tell_frames-requires : goal.tell_frames-requires
 tell_frames-requires g c =
     let made = c.in_ok-door.ensures in
-    (created-reaches (g.F.Family.meaning c.args.key) c.args.file.now.key.door c.args.file.now.key.allowance (door_state g.F.Family.meaning c.in_ok-door.door) made.0 made.1, c.requires)
+    created-reaches (g.F.Family.meaning c.args.key) c.args.file.now.key.door c.args.file.now.key.allowance (door_state g.F.Family.meaning c.in_ok-door.door) made.0 made.1
 
 pub returns : goal.returns
 returns g c =
     let made = c.in_ok-door.ensures in (
       made.0,
       tells_page (g.F.Family.meaning c.args.key) (contents_of c.args.file.now) c.new-pads.result.words.now (door_state g.F.Family.meaning c.in_ok-door.door) _
-          (c.new-pads.ensures ∙ c.as_slice.ensures) made.1 c.tell_frames.ensures,
+          (c.new-pads.ensures ∙ c.as_slice.ensures.value) made.1 c.tell_frames.ensures,
     )
