@@ -32,8 +32,8 @@ be8 (a ∷ (b ∷ (c ∷ (d ∷ (e ∷ (f ∷ (g ∷ []))))))) h = absurd (omega
 be8 (a ∷ (b ∷ (c ∷ (d ∷ (e ∷ (f ∷ (g ∷ (i ∷ r)))))))) h = omega arith
 
 -- The bytes of a field are its number.
-pub numbered : (size at : ℕ) (bs b : List ℕ) (place : ℕ) (rest : List ℕ) (n m : ℕ) → Taken size at bs b place rest → (size ≤ length b → number_from_digits 256 (take size b) ≡ m) → n ≡ m → n ≡ number_from_digits 256 b
-numbered size at bs b place rest n m t be e =
+pub numbered : {size at : ℕ} {bs b : List ℕ} {place : ℕ} {rest : List ℕ} {n m : ℕ} → Taken size at bs b place rest → (size ≤ length b → number_from_digits 256 (take size b) ≡ m) → n ≡ m → n ≡ number_from_digits 256 b
+numbered {size = size} {bs = bs} {b = b} t be e =
     let h = t.there in
     let l = ap length t.value ∙ length-take-le size bs h in
     let same : take size b ≡ b = ap (take size) t.value ∙ take-take size size bs (omega arith) ∙ sym t.value in

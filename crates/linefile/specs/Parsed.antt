@@ -36,9 +36,10 @@ pub record Taken (size at : ℕ) (bytes field : List ℕ) (place : ℕ) (rest : 
   pub place_is : place ≡ at + size
   pub rest_is : rest ≡ drop size bytes
 
--- there are fewer bytes than that
-abbrev pub Cut : (size at : ℕ) (bytes : List ℕ) → FileFault → Type 0
-Cut size at bytes f = (length bytes < size) × (f ≡ record { flaw = CutShort; place = at })
+-- Or there are fewer bytes than that, and the fault is told at `at`.
+pub record Cut (size at : ℕ) (bytes : List ℕ) (f : FileFault) : Type 0 where
+  pub ends : length bytes < size
+  pub told : f ≡ record { flaw = CutShort; place = at }
 
 -- Of a file that goes on from `at` with these bytes, first a part and then whatever stands behind it: y was read of the part, and
 -- `rest`, from `place` on, is left.

@@ -1,7 +1,8 @@
 -- One field, written and read.
 use Rattle.std.proofs.Common.{◌≡◌, ℕ, ◌+◌, ◌-◌, ◌*◌, ◌^◌, ◌<◌, ◌≤◌, Bool, true, false, ltb, List, [], ◌∷◌, ◌++◌, length, take, drop, Ok, Err, Result, sym, refl, ap, ◌∙◌, subst, inl, inr, append_assoc, arith, length-append}
 use Rattle.std.specs.Int.Digits.{number_from_digits}
-use Rattle.std.proofs.lemmas.List.{take_at, drop_at, take-take, drop-take, length-take-le, take-append-drop}
+use Rattle.std.proofs.Math.Seq.{take-append-add}
+use Rattle.std.proofs.lemmas.List.{take_at, drop_at, length-take-le, take-append-drop}
 use Rattle.std.proofs.lemmas.Bool.{cases_lt, cond-false, cond-true, ltb-false}
 use Rattle.std.proofs.ByRecursion.{All-take, All-drop}
 use Rattle.bits.specs.Bits.{Bytes}
@@ -34,11 +35,8 @@ past_front size value next v b rest at l e =
 
 take-front : (b rest : List ℕ) (size n : ℕ) → length b ≡ size → size ≤ n → take n (b ++ rest) ≡ b ++ take (n - size) rest
 take-front b rest size n l h =
-    let t = take n (b ++ rest) in
-    let e : size + (n - size) ≡ n = omega arith in
-    sym (take-append-drop size t)
-    ∙ ap (λ z. z ++ drop size t) (take-take size n (b ++ rest) h ∙ take_at b rest size l)
-    ∙ ap (λ z. b ++ z) (ap (λ k. drop size (take k (b ++ rest))) (sym e) ∙ drop-take size (n - size) (b ++ rest) ∙ ap (take (n - size)) (drop_at b rest size l))
+    let e : n ≡ length b + (n - size) = omega arith in
+    ap (λ k. take k (b ++ rest)) e ∙ take-append-add b rest (n - size)
 
 pub reads_field : {V X : Type 0} (size : ℕ) (value : List ℕ → Result V Flaw) (next : V → Layout X) (v : V) (b rest : List ℕ) (x : X) → length b ≡ size → value b ≡ Ok v → Reads (next v) rest x → Reads (field size value next) (b ++ rest) x
 reads_field {X = X} size value next v b rest x l e r =

@@ -1,20 +1,20 @@
 use Rattle.std.proofs.Common.{◌≡◌, ◌≤◌, length, get_or, drop, Ok, MatchResult, ap, ◌∙◌, arith, length-drop, rules}
 use Rattle.std.proofs.lemmas.List.{get_or-drop}
 use Rattle.std.proofs.lemmas.Bool.{cond-true, cond-false, le-leb, lt-leb}
-use Rattle.std.proofs.lemmas.Result.{err_from_is_err_and, MatchResult-weaker}
+use Rattle.std.proofs.lemmas.Result.{MatchResult-weaker}
 use Rattle.linefile.specs.declared.faults.Flaw.TheVariants.{Unknown}
 use Rattle.linefile.specs.File.{a_kind, an_allowance}
 use Rattle.linefile.proofs.Bytes.{be1}
 use Rattle.linefile.proofs.Keys.{told-wrong_kind, told-kind, wrong_allowance, key-past}
+use Rattle.linefile.proofs.Stages.{passed_on}
 use Rattle.linefile.proofs.key.key_record.Goals as goal
 
 pub returns-in_err-kind : goal.returns-in_err-kind
 returns-in_err-kind c =
-    let p = err_from_is_err_and c.from_residual.result c.from_residual.ensures.1 in
     let h : 23 ≤ length c.args.left.now.bytes.now = search rules in
     let m : MatchResult c.try_from.result (λ _. ⊥) (λ flaw. c.in_err-kind.field-0.0 ≡ record { flaw = flaw; place = c.args.left.now.at }) =
     MatchResult-weaker c.try_from.result c.in_err-kind.ensures.cases (λ k q. cc) (λ flaw q. search rules) in
-    rw (p.1, p.2) (told-wrong_kind c.args.left.now.at c.args.left.now.bytes.now c.try_from.result _ (omega arith) c.try_from.ensures m)
+    passed_on _ _ _ _ c.from_residual.ensures.1 (told-wrong_kind c.args.left.now.at c.args.left.now.bytes.now c.try_from.result _ (omega arith) c.try_from.ensures m)
 
 pub returns-then-allowance-gt1 : goal.returns-then-allowance-gt1
 returns-then-allowance-gt1 c =

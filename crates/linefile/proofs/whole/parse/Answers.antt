@@ -1,23 +1,20 @@
 use Rattle.std.proofs.Common.{rules}
-use Rattle.std.proofs.lemmas.Result.{err_from_is_err_and}
 use Rattle.std.proofs.lemmas.Bool.{eqb-true, eqb-false}
+use Rattle.linefile.proofs.Stages.{passed_on}
 use Rattle.linefile.proofs.WholeFile.{key-faulty, pads-faulty, frames_faulty, trailing, finished}
 use Rattle.linefile.proofs.whole.parse.Goals as goal
 
 pub returns-in_err-key : goal.returns-in_err-key
 returns-in_err-key c =
-    let p = err_from_is_err_and c.from_residual.result c.from_residual.ensures.1 in
-    rw (p.1, p.2) (key-faulty c.args.file.now _ c.in_err-key.ensures)
+    passed_on _ _ _ _ c.from_residual.ensures.1 (key-faulty c.args.file.now _ c.in_err-key.ensures)
 
 pub returns-in_err-pads : goal.returns-in_err-pads
 returns-in_err-pads c =
-    let p = err_from_is_err_and c.from_residual-in_err-pads.result c.from_residual-in_err-pads.ensures.1 in
-    rw (p.1, p.2) (pads-faulty c.args.file.now _ c.in_ok-key.ensures c.in_err-pads.ensures)
+    passed_on _ _ _ _ c.from_residual-in_err-pads.ensures.1 (pads-faulty c.args.file.now _ c.in_ok-key.ensures c.in_err-pads.ensures)
 
 pub returns-in_err-frames : goal.returns-in_err-frames
 returns-in_err-frames c =
-    let p = err_from_is_err_and c.from_residual-in_err-frames.result c.from_residual-in_err-frames.ensures.1 in
-    rw (p.1, p.2) (frames_faulty c.args.file.now _ c.in_ok-key.ensures c.in_ok-pads.ensures c.in_err-frames.ensures)
+    passed_on _ _ _ _ c.from_residual-in_err-frames.ensures.1 (frames_faulty c.args.file.now _ c.in_ok-key.ensures c.in_ok-pads.ensures c.in_err-frames.ensures)
 
 pub returns-then-not-ends : goal.returns-then-not-ends
 returns-then-not-ends c =
