@@ -35,9 +35,6 @@ pub struct KeyRecord {
     pub allowance: u8,
 }
 
-// The places in a record of the fields behind its first, from the last one back.
-const FIELD_PLACES: [usize; 5] = [22, 18, 10, 2, 1];
-
 impl TryFrom<u8> for Kind {
     type Error = Flaw;
 
@@ -56,6 +53,9 @@ impl TryFrom<u8> for Kind {
         Ok(Kind { family, parity })
     }
 }
+
+// The places in a record of the fields behind its first, from the last one back.
+const FIELD_PLACES: [usize; 5] = [22, 18, 10, 2, 1];
 
 // The bytes of a key record that lie ahead of the first field that is cut.
 fn whole_fields(there: usize) -> usize
@@ -82,6 +82,7 @@ fn cut_key(left: &Left<'_>) -> FileFault
     }
 }
 
+// A key record: one pattern names each of its bytes.
 fn key_record(left: &mut Left<'_>) -> Result<KeyRecord, FileFault>
     ensures { MatchResult result (λ key. Passes key_record left.old key left.new) (Fails key_record left.old) }
 {

@@ -8,12 +8,14 @@ use crate::faults::{FileFault, Flaw};
 use crate::left::Left;
 use arrayvec::ArrayVec;
 
-// What a section has any number of: how an item is read, and what it means.
+// What a section has any number of.
 pub(crate) trait Item<'a>: Default + Drop {
+    // What an item means.
     ghost Sense: { Type 0 };
 
     ghost sense: { Self → Sense };
 
+    // The part of a file that an item is read of.
     ghost part: { Part Sense Contents };
 
     fn read(left: &mut Left<'a>) -> Result<Self, FileFault>
@@ -32,7 +34,7 @@ fn count(left: &mut Left<'_>, most: usize) -> Result<usize, FileFault>
     Ok(count)
 }
 
-// A section of at most MOST items.
+// A section: its count, which is at most MOST, and its items.
 pub(crate) fn section<'a, T: Item<'a>, const MOST: usize>(
     left: &mut Left<'a>,
 ) -> Result<ArrayVec<T, MOST>, FileFault>
