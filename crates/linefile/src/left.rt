@@ -22,20 +22,6 @@ impl<'a> Left<'a> {
         self.bytes.is_empty()
     }
 
-    // A field of N bytes.
-    pub(crate) fn take<const N: usize>(&mut self) -> Result<[u8; N], FileFault>
-        ensures { MatchResult result (λ field. Takes N self.old field self.new) (RunsOut N self.old) }
-    {
-        let Some((field, rest)) = self.bytes.split_first_chunk::<N>() else {
-            return Err(Flaw::CutShort.at(self.at));
-        };
-        *self = Left {
-            at: self.at + N,
-            bytes: rest,
-        };
-        Ok(*field)
-    }
-
     // A field of so many bytes, where it stands in the file.
     pub(crate) fn take_slice(&mut self, size: usize) -> Result<&'a [u8], FileFault>
         ensures { MatchResult result (λ field. Takes size self.old field.now self.new) (RunsOut size self.old) }
@@ -47,6 +33,15 @@ impl<'a> Left<'a> {
             at: self.at + size,
             bytes: rest,
         };
+        Ok(field)
+    }
+
+    // A field of N bytes.
+    pub(crate) fn take<const N: usize>(&mut self) -> Result<[u8; N], FileFault>
+        ensures { MatchResult result (λ field. Takes N self.old field self.new) (RunsOut N self.old) }
+    {
+        let mut field = [0; N];
+        field.copy_from_slice(self.take_slice(N)?);
         Ok(field)
     }
 }
