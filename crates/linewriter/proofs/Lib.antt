@@ -1,4 +1,3 @@
--- Lemmas on numbers in base ten, the lengths of lines, and the totals.
-mod Digits
+-- Lemmas on the lengths of lines, and the totals.
 pub mod Counts
 pub mod Lengths

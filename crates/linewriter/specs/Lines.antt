@@ -1,6 +1,16 @@
 -- The lines of a report, byte for byte. Each ends with a line feed, and numbers are in base ten.
-use Rattle.std.specs.Prelude.{ℕ, ◌<◌, List, [], ◌++◌, Some, None, codes, decimal}
+use Rattle.std.specs.Prelude.{ℕ, List, [], ◌++◌, Some, None, codes, decimal}
+use Rattle.std.specs.Borrow.{Bor}
+use Rattle.std.specs.List.{flat_map}
 use Rattle.account.specs.Calls.{Answer, Wrote, Opened, Done, Refused}
+
+-- words, and a number behind them
+abbrev pub part_text : Bor (List ℕ) × ℕ → List ℕ
+part_text part = part.0.now ++ decimal part.1
+
+-- a line of such parts
+abbrev pub line_of : List (Bor (List ℕ) × ℕ) → List ℕ
+line_of parts = flat_map part_text parts ++ codes "\n"
 
 -- a file with a fault
 abbrev pub file_line : (number place : ℕ) → List ℕ
@@ -30,14 +40,6 @@ frame_line slot (Opened size (Some place)) = mended_line slot size place
 frame_line slot (Refused refusal) = refused_line slot refusal.number
 frame_line slot (Wrote size) = []
 frame_line slot Done = []
-
--- each number that an open's answer tells is below the bound
-abbrev pub TellsBelow : (bound : ℕ) → Answer → Type 0
-TellsBelow bound (Opened size None) = size < bound
-TellsBelow bound (Opened size (Some place)) = (size < bound) × (place < bound)
-TellsBelow bound (Refused refusal) = refusal.number < bound
-TellsBelow bound (Wrote size) = Unit {0}
-TellsBelow bound Done = Unit {0}
 
 -- the last line: how many frames gave each sort of line
 abbrev pub totals_line : (opened mended refused : ℕ) → List ℕ

@@ -1,66 +1,33 @@
 //! Writing lines into a page.
-ghost use Rattle.std.specs.Prelude.{◌≡◌, ◌≤◌, [], length};
-ghost use Rattle.linewriter.specs.Counting.{open_answer};
-ghost use Rattle.linewriter.specs.Lines.{file_line, frame_line, key_line, totals_line};
-ghost use Rattle.linewriter.specs.Pages.{Adds, written};
+#![tactic(auto, using(crate::proofs::Lengths::lines_short))]
 
-use crate::page::{PAGE_SIZE, Page};
-use crate::texts;
+ghost use Rattle.std.specs.Prelude.{◌≡◌, ◌+◌, ◌<◌, ◌≤◌, ◌++◌, length, take, OnOk, IsErr};
+ghost use Rattle.linewriter.specs.Counting.{open_answer};
+ghost use Rattle.linewriter.specs.Lines.{file_line, frame_line, key_line, line_of, totals_line};
+ghost use Rattle.linewriter.specs.Pages.{Adds, page_size, written};
+
+use crate::page::{Full, Page};
 use crate::totals::Totals;
 use framing::{OpenRefusal, Opened};
-use std::error::Error;
-use std::fmt;
+use itoa::Buffer;
 
-// The page has no room for the line, of which nothing was written.
-#[derive(Clone, Copy, Debug, PartialEq, Eq)]
-pub struct Full;
-
-impl fmt::Display for Full {
-    fn fmt<W: fmt::Write>(&self, f: &mut fmt::Formatter<W>) -> fmt::Result {
-        f.write_str("the page has no room for the line")
-    }
+// A size as a number that a line tells. There is no `From` between the two types.
+fn of_size(size: usize) -> u64
+    ensures { result ≡ size }
+{
+    size as u64
 }
 
-impl Error for Full {}
-
 impl Page {
-    pub fn blank() -> Page
-        ensures { written result ≡ [] }
-    {
-        Page {
-            bytes: [0; PAGE_SIZE],
-            len: 0,
-        }
-    }
-
-    // What is written so far.
-    pub fn as_slice(&self) -> &[u8]
-        ensures { result.now ≡ written self.now }
-    {
-        let len = self.len;
-        &self.bytes[0..len]
-    }
-
-    // Writes a text behind what is written so far.
-    pub fn append(&mut self, text: &[u8]) -> Result<(), Full>
-        ensures { Adds result text.now self.old self.new }
-    {
-        let at = self.len;
-        let size = text.len();
-        if PAGE_SIZE - at < size {
-            return Err(Full);
-        }
-        self.bytes[at..at + size].copy_from_slice(text);
-        self.len = at + size;
-        Ok(())
-    }
-
     // The line of a file with a fault: the fault's number and its place.
     pub fn file_line(&mut self, number: u32, place: usize) -> Result<(), Full>
         ensures adds { Adds result (file_line number place) self.old self.new }
         ensures short { length (file_line number place) ≤ 60 }
     {
-        self.append(texts::file_text(number, place).as_slice())
+        self.write_line(&[
+            ("file refused ", u64::from(number)),
+            (" at ", of_size(place)),
+        ])
     }
 
     // The line of a key that is refused, with the refusal's number.
@@ -68,7 +35,7 @@ impl Page {
         ensures adds { Adds result (key_line number) self.old self.new }
         ensures short { length (key_line number) ≤ 40 }
     {
-        self.append(texts::key_text(number).as_slice())
+        self.write_line(&[("key refused ", u64::from(number))])
     }
 
     // The line of a frame, by what its open answered.
@@ -80,7 +47,19 @@ impl Page {
         ensures adds { Adds result (frame_line slot (open_answer answer.now)) self.old self.new }
         ensures short { length (frame_line slot (open_answer answer.now)) ≤ 80 }
     {
-        self.append(texts::frame_text(slot, answer).as_slice())
+        let slot = ("slot ", u64::from(slot));
+        match *answer {
+            Ok(Opened { len, mended }) => {
+                let len = of_size(len);
+                match mended {
+                    None => self.write_line(&[slot, (" opened ", len)]),
+                    Some(place) => {
+                        self.write_line(&[slot, (" mended ", len), (" at ", of_size(place))])
+                    }
+                }
+            }
+            Err(refusal) => self.write_line(&[slot, (" refused ", u64::from(refusal.number()))]),
+        }
     }
 
     // The last line: how many frames gave each sort of line.
@@ -88,6 +67,36 @@ impl Page {
         ensures adds { Adds result (totals_line totals.now.opened totals.now.mended totals.now.refused) self.old self.new }
         ensures short { length (totals_line totals.now.opened totals.now.mended totals.now.refused) ≤ 90 }
     {
-        self.append(texts::totals_text(totals).as_slice())
+        self.write_line(&[
+            ("opened ", of_size(totals.opened)),
+            (" mended ", of_size(totals.mended)),
+            (" refused ", of_size(totals.refused)),
+        ])
+    }
+
+    // Writes a line of words with a number behind each, whole or not at all.
+    fn write_line(&mut self, parts: &[(&str, u64)]) -> Result<(), Full>
+        ensures { Adds result (line_of parts.now) self.old self.new }
+    {
+        let before = self.bytes.len();
+        let result = self.write_parts(parts);
+        if result.is_err() {
+            self.bytes.truncate(before);
+        }
+        result
+    }
+
+    // Writes such a line as far as the page has room.
+    fn write_parts(&mut self, parts: &[(&str, u64)]) -> Result<(), Full>
+        ensures wrote { OnOk result (written self.new ≡ written self.old ++ line_of parts.now) }
+        ensures full { IsErr result → page_size < length (written self.old) + length (line_of parts.now) }
+        ensures kept { take (length (written self.old)) (written self.new) ≡ written self.old }
+    {
+        let mut figures = Buffer::new();
+        for &(words, number) in parts {
+            self.append(words.as_bytes())?;
+            self.append(figures.format(number).as_bytes())?;
+        }
+        self.append(b"\n")
     }
 }
