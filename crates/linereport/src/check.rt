@@ -11,12 +11,12 @@ ghost use Rattle.std.specs.Prelude.{◌≡◌, length};
 use crate::keys::{RefusedKey, tell_file};
 use linefile::FileFault;
 use linewriter::Page;
-use std::error::Error;
-use std::fmt;
+use thiserror::Error;
 
-// The output buffer does not hold the report.
-#[derive(Clone, Copy, Debug, PartialEq, Eq)]
+// Why a report is not written.
+#[derive(Clone, Copy, Debug, PartialEq, Eq, Error)]
 pub enum ReportRefusal {
+    #[error("the output buffer does not hold the report")]
     NoRoom,
 }
 
@@ -30,24 +30,12 @@ impl ReportRefusal {
     }
 }
 
-impl fmt::Display for ReportRefusal {
-    fn fmt<W: fmt::Write>(&self, f: &mut fmt::Formatter<W>) -> fmt::Result {
-        match self {
-            ReportRefusal::NoRoom => f.write_str("the output buffer does not hold the report"),
-        }
-    }
-}
-
-impl Error for ReportRefusal {}
-
 // The report on a file with a fault.
 fn fault_page(fault: FileFault) -> Page
     ensures { written result ≡ file_line (file_refusal fault).number (file_refusal fault).place }
 {
     let mut page = Page::blank();
-    let Ok(()) = page.file_line(fault.number(), fault.place) else {
-        unreachable()
-    };
+    page.file_line(fault.number(), fault.place).unwrap();
     page
 }
 
@@ -56,9 +44,7 @@ fn key_page(refusal: RefusedKey) -> Page
     ensures { written result ≡ key_line (key_number refusal) }
 {
     let mut page = Page::blank();
-    let Ok(()) = page.key_line(refusal.number()) else {
-        unreachable()
-    };
+    page.key_line(refusal.number()).unwrap();
     page
 }
 
@@ -68,10 +54,7 @@ fn report(file: &[u8]) -> Page
 {
     match linefile::parse(file) {
         Err(fault) => fault_page(fault),
-        Ok(parts) => match tell_file(&parts) {
-            Err(refusal) => key_page(refusal),
-            Ok(page) => page,
-        },
+        Ok(parts) => tell_file(&parts).unwrap_or_else(key_page),
     }
 }
 

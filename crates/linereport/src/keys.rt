@@ -41,6 +41,7 @@ impl RefusedKey {
     }
 }
 
+// These stay by hand: a derive's `From` says nothing of what it gives, and the clauses below read it.
 impl From<AdmissionRefusal> for RefusedKey {
     ghost from_gives = { λ e r. r ≡ not_admitted e };
 

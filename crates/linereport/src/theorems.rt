@@ -2,8 +2,6 @@
 ghost use Rattle.linereport.specs.Laws.{OneReport};
 
 // No file has two reports.
-pub fn reports_are_one() -> u8
+pub fn reports_are_one()
     ensures { OneReport }
-{
-    0
-}
+{}
