@@ -7,14 +7,10 @@ use linewriter::PAGE_SIZE;
 use std::io::{Read, Write};
 
 fn main(rt: HostRuntime) -> anyhow::Result<()> {
-    run(&rt)
-}
-
-fn run(rt: &HostRuntime) -> anyhow::Result<()> {
     let mut file = Vec::new(rt.alloc());
     rt.stdin().read_to_end(&mut file)?;
     let mut out = [0u8; PAGE_SIZE];
-    let len = check_line(file.as_slice(), &mut out)?;
-    rt.stdout().write_all(&out[0..len])?;
+    let len = check_line(&file, &mut out)?;
+    rt.stdout().write_all(&out[..len])?;
     Ok(())
 }
