@@ -1,13 +1,13 @@
 -- Frames told one by one: what is written, with what the frames that are left will give, is the whole.
-use Rattle.std.proofs.Common.{◌≡◌, ℕ, zero, suc, ◌+◌, ◌-◌, ◌*◌, ◌^◌, ◌≤◌, List, [], ◌∷◌, ◌++◌, length, Some, None, sum_by, sym, ap, ◌∙◌, ap₂, append_assoc, append-nil, arith, length-append}
-use native.Mathlib.Nat.{min-eq_left}
+use Rattle.std.proofs.Common.{◌≡◌, ℕ, suc, ◌+◌, ◌*◌, ◌≤◌, List, [], ◌∷◌, ◌++◌, length, sum_by, sym, ap, ◌∙◌, ap₂, append_assoc, append-nil, arith, length-append}
 use Rattle.std.proofs.lemmas.List.Sums.{sum_by-cons}
-use Rattle.account.specs.Calls.{Pads, Answer, Wrote, Opened, Done, Refused}
+use Rattle.account.specs.Calls.{Pads, Answer}
 use Rattle.account.specs.Ends.{EndState, Reaches}
 use Rattle.linefile.specs.File.{SentFrame, most_frames}
 use Rattle.linewriter.specs.declared.totals.Totals.{Totals}
 use Rattle.linewriter.specs.Lines.{frame_line}
-use Rattle.linewriter.specs.Counting.{counts_opened, counts_mended, counts_refused, totals_of, raised, counted}
+use Rattle.linewriter.specs.Counting.{counts_opened, counts_mended, counts_refused, totals_of, counted}
+use Rattle.linewriter.proofs.Counts.{at_most_one, raised_below}
 use Rattle.linereport.specs.Frames.{frame_reply, answers}
 use Rattle.linereport.specs.Report.{frame_lines, summed_up}
 
@@ -45,23 +45,6 @@ so_far_none pads first all text t e f few reaches =
 
 -- ---- one more
 
--- what is counted is far below the largest number
-raised-small : (n k : ℕ) → k ≤ 1 → n ≤ most_frames → raised n k ≡ n + k
-raised-small n zero h l = omega arith
-raised-small n (suc zero) h l = min-eq_left {n = n + 1} {m = 2 ^ 64 - 1} (omega arith)
-raised-small n (suc (suc k)) h l = absurd (omega arith)
-
--- each answer counts for at most one
-pub record Counts (a : Answer) : Type 0 where
-  pub once : counts_opened a + counts_mended a + counts_refused a ≤ 1
-
-counts : (a : Answer) → Counts a
-counts (Wrote size) = record { once = omega arith }
-counts (Opened size None) = record { once = omega arith }
-counts (Opened size (Some place)) = record { once = omega arith }
-counts Done = record { once = omega arith }
-counts (Refused r) = record { once = omega arith }
-
 -- a frame is told: its line is written, its answer counted
 pub so_far_more : (pads : Pads) (first : EndState) (all : List SentFrame) (here : EndState) (f : SentFrame) (left left' : List SentFrame) (text : List ℕ) (t : Totals)
     (a : Answer) (here' : EndState) (text' : List ℕ) (t' : Totals)
@@ -76,10 +59,10 @@ so_far_more pads first all here f left left' text t a here' text' t' s e ea eh r
     ap (answers pads here) e ∙ ap₂ (λ (x : Answer) (h : EndState). x ∷ answers pads h left') (sym ea) (sym eh) in
     let n : length left ≡ suc (length left') = ap length e in
     let room = s.few in
-    let one = (counts a).once in
-    let o : t'.opened ≡ t.opened + counts_opened a = ap (λ (x : Totals). x.opened) ec ∙ raised-small t.opened (counts_opened a) (omega arith) (omega arith) in
-    let m : t'.mended ≡ t.mended + counts_mended a = ap (λ (x : Totals). x.mended) ec ∙ raised-small t.mended (counts_mended a) (omega arith) (omega arith) in
-    let k : t'.refused ≡ t.refused + counts_refused a = ap (λ (x : Totals). x.refused) ec ∙ raised-small t.refused (counts_refused a) (omega arith) (omega arith) in
+    let one = at_most_one a in
+    let o : t'.opened ≡ t.opened + counts_opened a = ap (λ (x : Totals). x.opened) ec ∙ raised_below t.opened (counts_opened a) (omega arith) in
+    let m : t'.mended ≡ t.mended + counts_mended a = ap (λ (x : Totals). x.mended) ec ∙ raised_below t.mended (counts_mended a) (omega arith) in
+    let k : t'.refused ≡ t.refused + counts_refused a = ap (λ (x : Totals). x.refused) ec ∙ raised_below t.refused (counts_refused a) (omega arith) in
     record {
       lines =
           ap (λ (x : List ℕ). x ++ frame_lines left' rest) et

@@ -87,6 +87,7 @@ fn tell_laid<F: Family + Drop>(key: F, file: &LineFile<'_>) -> Result<Page, Refu
     }
 }
 
+// Neither type is of this crate, so that no `From` can say it.
 fn raw_key(key: &KeyRecord) -> RawKey
     ensures { result ≡ raw_of key.now }
 {

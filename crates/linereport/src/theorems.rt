@@ -2,6 +2,7 @@
 ghost use Rattle.linereport.specs.Laws.{OneReport};
 
 // No file has two reports.
+#[tactic(auto, using(crate::proofs::OneReport::one_report))]
 pub fn reports_are_one()
     ensures { OneReport }
 {}

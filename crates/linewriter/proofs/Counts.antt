@@ -30,7 +30,8 @@ of_open (Err refusal) = tt
 
 -- ---- totals that are counted one by one
 
-at_most_one : (answer : Answer) → counts_opened answer + counts_mended answer + counts_refused answer ≤ 1
+-- each answer counts for at most one
+pub at_most_one : (answer : Answer) → counts_opened answer + counts_mended answer + counts_refused answer ≤ 1
 at_most_one (Opened size None) = omega arith
 at_most_one (Opened size (Some place)) = omega arith
 at_most_one (Refused refusal) = omega arith
@@ -41,7 +42,8 @@ at_most_all : (counts : Answer → ℕ) → ((answer : Answer) → counts answer
 at_most_all counts one [] = omega arith
 at_most_all counts one (answer ∷ answers) = omega (arith, sum_by-cons counts answer answers, one answer, at_most_all counts one answers)
 
-raised_below : (n k : ℕ) → n + k < 2 ^ 64 → raised n k ≡ n + k
+-- what stays below the largest number is counted on
+pub raised_below : (n k : ℕ) → n + k < 2 ^ 64 → raised n k ≡ n + k
 raised_below n zero h = omega arith
 raised_below n (suc k) h = omega arith
 

@@ -2,6 +2,7 @@
 ghost use Rattle.linewriter.specs.Counting.{TotalsAddUp};
 
 // Every frame is counted once: as opened, as mended, or as refused.
+#[tactic(auto, using(crate::proofs::Counts::totals_add_up))]
 pub fn totals_add_up()
     ensures { TotalsAddUp }
 {}
