@@ -27,4 +27,5 @@ pub totals_line-short : (opened mended refused : ℕ) → opened < 2 ^ 64 → me
 totals_line-short opened mended refused h k l =
     grind (arith, length-append, digits_short opened h, digits_short mended k, digits_short refused l)
 
+-- what holds of the length of each line
 pub ruleset lines_short = (file_line-short, key_line-short, opened_line-short, mended_line-short, refused_line-short, totals_line-short)
