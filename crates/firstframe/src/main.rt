@@ -1,26 +1,29 @@
 //! From a raw key to the first opened frame: what an integrator writes, for a reader and for its door.
 #![tactic(auto)]
 
-use anyhow::anyhow;
+use anyhow::Error;
+use bits::flip_bit;
 use crc::CrcKey;
 use ends::{DoorEnd, ReaderEnd};
 use family::RawKey;
 use framing::LONGEST_PAYLOAD;
 use pads::CipherSource;
 use parity::Parity;
+use std::alloc::Global;
+
+const DOOR: u32 = 42;
+
+const SLOT: u32 = 1;
 
 // The key as both ends have it. A key of the top level: the parity layer over any family has distance 4.
 fn shared_key() -> anyhow::Result<Parity<CrcKey>> {
-    let raw = RawKey {
+    let below = CrcKey::admit(RawKey {
         degree: 63,
         coefficients: 3,
         state: 0,
         reach: 1016,
-    };
-    let Ok(key) = Parity::over(CrcKey::admit(raw)?) else {
-        return Err(anyhow!("the key is too wide for the layer"));
-    };
-    Ok(key)
+    })?;
+    Parity::over(below).map_err(|_| Error::msg("the key is too wide for the layer"))
 }
 
 // The pads as both ends have them.
@@ -28,38 +31,34 @@ fn shared_pads() -> CipherSource {
     CipherSource::new([7; 32], [9; 12])
 }
 
-// At the reader: badge number 2026 is sealed for slot 1 of door 42.
-fn at_the_reader(frame: &mut [u8]) -> anyhow::Result<usize> {
-    let Ok(mut reader) = ReaderEnd::new(shared_key()?, 42) else {
-        return Err(anyhow!("the key serves no end"));
-    };
-    match reader.seal(1, &2026u32.to_be_bytes(), frame, &shared_pads()) {
-        Ok(len) => Ok(len),
-        Err(_) => Err(anyhow!("not sealed")),
-    }
+// At the reader: a payload is sealed into a frame.
+fn at_the_reader(heap: Global, payload: &[u8]) -> anyhow::Result<Vec<u8>> {
+    let mut reader = ReaderEnd::new(shared_key()?, DOOR).map_err(Error::msg)?;
+    let mut frame = vec![in heap; 0; LONGEST_PAYLOAD + 8]?;
+    let len = reader
+        .seal(SLOT, payload, frame.as_mut_slice(), &shared_pads())
+        .map_err(Error::msg)?;
+    frame.truncate(len);
+    Ok(frame)
 }
 
 // At the door: the frame is opened, and one changed bit is put right.
-fn at_the_door(frame: &[u8], payload: &mut [u8]) -> anyhow::Result<usize> {
-    let Ok(mut door) = DoorEnd::new(shared_key()?, 42, 1) else {
-        return Err(anyhow!("the key serves no end"));
-    };
-    match door.open(1, frame, payload, &shared_pads()) {
-        Ok(opened) => Ok(opened.len),
-        Err(_) => Err(anyhow!("not opened")),
-    }
+fn at_the_door(heap: Global, frame: &[u8]) -> anyhow::Result<Vec<u8>> {
+    let mut door = DoorEnd::new(shared_key()?, DOOR, 1).map_err(Error::msg)?;
+    let mut payload = vec![in heap; 0; LONGEST_PAYLOAD]?;
+    let opened = door
+        .open(SLOT, frame, payload.as_mut_slice(), &shared_pads())
+        .map_err(Error::msg)?;
+    payload.truncate(opened.len);
+    Ok(payload)
 }
 
 fn main(rt: HostRuntime) -> anyhow::Result<()> {
-    let mut frame = [0u8; LONGEST_PAYLOAD + 8];
-    let sent = at_the_reader(&mut frame)?;
-    frame[1] ^= 0x10; // on the way
-    let mut payload = [0u8; LONGEST_PAYLOAD];
-    let len = at_the_door(&frame[0..sent.min(127)], &mut payload)?;
-    println!(rt; "sealed {sent} bytes, opened {len}")?;
-    println!(rt;
-        "badge {}",
-        u32::from_be_bytes([payload[0], payload[1], payload[2], payload[3]])
-    )?;
+    let mut frame = at_the_reader(rt.alloc(), &2026u32.to_be_bytes())?;
+    flip_bit(frame.as_mut_slice(), 11); // on the way
+    let payload = at_the_door(rt.alloc(), frame.as_slice())?;
+    println!(rt; "sealed {} bytes, opened {}", frame.len(), payload.len())?;
+    let badge: [u8; 4] = payload.as_slice().try_into()?;
+    println!(rt; "badge {}", u32::from_be_bytes(badge))?;
     Ok(())
 }
