@@ -8,6 +8,14 @@ use crate::table::{Entry, Expected};
 use pads::{CipherSource, PadFault, PadSource};
 use std::fmt;
 
+// What comparing a line comes to.
+#[derive(Clone, Copy)]
+enum Verdict {
+    BlockAgrees,
+    WordAgrees,
+    Differs,
+}
+
 // How many lines agree, how many differ, and the number of the first that differs.
 #[derive(Clone, Copy, Default)]
 pub(crate) struct Tally {
@@ -22,13 +30,13 @@ impl Tally {
         self.differing == 0
     }
 
-    fn count(&mut self, number: usize, expected: Expected, agrees: bool) {
-        match (agrees, expected) {
-            (true, Expected::Block(_)) => self.blocks = self.blocks.saturating_add(1),
-            (true, Expected::Word(_)) => self.words = self.words.saturating_add(1),
-            (false, _) => {
+    fn count(&mut self, number: usize, verdict: Verdict) {
+        match verdict {
+            Verdict::BlockAgrees => self.blocks = self.blocks.saturating_add(1),
+            Verdict::WordAgrees => self.words = self.words.saturating_add(1),
+            Verdict::Differs => {
                 self.differing = self.differing.saturating_add(1);
-                self.first = Some(self.first.unwrap_or(number));
+                self.first = self.first.or(Some(number));
             }
         }
     }
@@ -53,21 +61,23 @@ impl fmt::Display for Tally {
 // Compares every line that says something; the first that cannot be compared ends it.
 pub(crate) fn compare_all(text: &str) -> Result<Tally, BadLine> {
     let mut tally = Tally::default();
-    for (i, line) in text.lines().enumerate() {
-        if !table::is_blank(line) {
-            let number = i + 1;
-            match compare_line(line) {
-                Ok((expected, agrees)) => tally.count(number, expected, agrees),
-                Err(fault) => return Err(BadLine { number, fault }),
-            }
-        }
+    let numbered = (1..).zip(text.lines());
+    for (number, line) in numbered.filter(|(_, line)| !table::is_blank(line)) {
+        let verdict = compare_line(line).map_err(|fault| BadLine { number, fault })?;
+        tally.count(number, verdict);
     }
     Ok(tally)
 }
 
-fn compare_line(line: &str) -> Result<(Expected, bool), LineFault> {
-    let entry = table::read_entry(line)?;
-    Ok((entry.expected, agrees(&entry)?))
+fn compare_line(line: &str) -> Result<Verdict, LineFault> {
+    let entry: Entry = line.parse()?;
+    if !agrees(&entry)? {
+        return Ok(Verdict::Differs);
+    }
+    match entry.expected {
+        Expected::Block(_) => Ok(Verdict::BlockAgrees),
+        Expected::Word(_) => Ok(Verdict::WordAgrees),
+    }
 }
 
 fn agrees(entry: &Entry) -> Result<bool, PadFault>

@@ -1,19 +1,15 @@
-//! Bytes written in hexadecimal digits.
+//! Bytes written in hexadecimal digits. The kit's library `hex` reads capital letters too, which the table has not.
 ghost use Rattle.vectors.specs.Digit.{hex_digit};
 ghost use Rattle.std.specs.Prelude.{◌≡◌};
 
 // As many bytes as are asked for, two digits each, and nothing else.
 pub(crate) fn from_hex<const N: usize>(text: &str) -> Option<[u8; N]> {
-    let digits = text.as_bytes();
-    if digits.len() % 2 != 0 || digits.len() / 2 != N {
+    let (pairs, odd) = text.as_bytes().as_chunks::<2>();
+    if pairs.len() != N || !odd.is_empty() {
         return None;
     }
-    let mut bytes = [0u8; N];
-    for (i, pair) in digits.chunks_exact(2).enumerate() {
-        let [high, low] = pair else {
-            return None;
-        };
-        let byte = bytes.get_mut(i)?;
+    let mut bytes = [0; N];
+    for (byte, [high, low]) in bytes.iter_mut().zip(pairs) {
         *byte = 16 * digit(*high)? + digit(*low)?;
     }
     Some(bytes)
