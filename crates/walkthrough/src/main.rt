@@ -3,8 +3,10 @@
 
 mod day;
 mod full_size;
+mod keys;
 mod printing;
 mod refused;
+mod sent;
 mod small;
 mod watching;
 

@@ -1,4 +1,5 @@
 //! Raw keys that are refused, one for each question.
+use crate::keys::SMALL;
 use family::RawKey;
 use lfsr::MacCKey;
 
@@ -6,49 +7,34 @@ use lfsr::MacCKey;
 const REFUSED: [RawKey; 6] = [
     RawKey {
         degree: 2,
-        coefficients: 3,
         state: 1,
-        reach: 7,
+        ..SMALL
     },
     RawKey {
-        degree: 3,
         coefficients: 8,
-        state: 4,
-        reach: 7,
+        ..SMALL
     },
     RawKey {
-        degree: 3,
         coefficients: 2,
-        state: 4,
-        reach: 7,
+        ..SMALL
     },
+    RawKey { state: 0, ..SMALL },
     RawKey {
-        degree: 3,
-        coefficients: 3,
-        state: 0,
-        reach: 7,
-    },
-    RawKey {
-        degree: 3,
-        coefficients: 3,
-        state: 4,
         reach: 1017,
+        ..SMALL
     },
-    RawKey {
-        degree: 3,
-        coefficients: 3,
-        state: 4,
-        reach: 8,
-    },
+    RawKey { reach: 8, ..SMALL },
 ];
 
-fn show_one(rt: &impl Print, raw: &RawKey) -> anyhow::Result<()> {
-    let degree = raw.degree;
-    let coefficients = raw.coefficients;
-    let state = raw.state;
-    let reach = raw.reach;
+fn show_one(rt: &impl Print, raw: RawKey) -> anyhow::Result<()> {
+    let RawKey {
+        degree,
+        coefficients,
+        state,
+        reach,
+    } = raw;
     print!(rt; "  degree {degree}, coefficients {coefficients}, state {state}, reach {reach}: ")?;
-    match MacCKey::admit(*raw) {
+    match MacCKey::admit(raw) {
         Ok(_) => println!(rt; "admitted")?,
         Err(refusal) => {
             let number = refusal.number();
@@ -58,10 +44,10 @@ fn show_one(rt: &impl Print, raw: &RawKey) -> anyhow::Result<()> {
     Ok(())
 }
 
-pub fn show(rt: &impl Print) -> anyhow::Result<()> {
+pub(crate) fn show(rt: &impl Print) -> anyhow::Result<()> {
     println!(rt; "")?;
     println!(rt; "Raw keys that are refused, by the first question that they fail:")?;
-    for raw in &REFUSED {
+    for raw in REFUSED {
         show_one(rt, raw)?;
     }
     Ok(())
