@@ -6,34 +6,37 @@ use std::alloc::{AllocError, Global};
 use std::process::Abort;
 use std::test::Fail;
 
+// The report on a file.
+fn report_on(heap: Global, file: &[u8]) -> Result<Vec<u8>, Fail> {
+    let mut out = vec![in heap; 0; PAGE_SIZE]?;
+    let len = check_line(file, out.as_mut_slice())?;
+    out.truncate(len);
+    Ok(out)
+}
+
 // The report on a file is this text.
-fn tells(rt: &impl Abort, file: &[u8], report: &str) -> Result<(), Fail> {
-    let mut out = [0u8; PAGE_SIZE];
-    let Ok(len) = check_line(file, &mut out) else {
-        return Err(Fail::new("no room"));
-    };
-    assert!(rt; len <= PAGE_SIZE);
-    assert_eq!(rt; &out[0..len], report.as_bytes());
+fn tells(rt: &(impl Abort + AllocGlobal), file: &[u8], report: &str) -> Result<(), Fail> {
+    let told = report_on(rt.alloc(), file)?;
+    assert_eq!(rt; told.as_slice(), report.as_bytes());
     Ok(())
 }
 
-// The report on a file ends with this line.
-fn sums_up(rt: &impl Abort, file: &[u8], last: &str) -> Result<(), Fail> {
-    let mut out = [0u8; PAGE_SIZE];
-    let Ok(len) = check_line(file, &mut out) else {
-        return Err(Fail::new("no room"));
-    };
-    assert!(rt; len <= PAGE_SIZE && last.len() <= len);
-    assert_eq!(rt; &out[len - last.len()..len], last.as_bytes());
+// The report on a file ends with this text.
+fn sums_up(rt: &(impl Abort + AllocGlobal), file: &[u8], last: &str) -> Result<(), Fail> {
+    let told = report_on(rt.alloc(), file)?;
+    assert!(rt; told.as_slice().ends_with(last.as_bytes()));
     Ok(())
 }
 
-// The report on the example with one byte put in place of another is this text.
-fn edited(rt: &impl Abort, place: usize, byte: u8, report: &str) -> Result<(), Fail> {
-    let mut file = EXAMPLE;
-    assert!(rt; place < file.len());
-    file[place] = byte;
-    tells(rt, &file, report)
+// The report on the example with one byte, at a place, put in place of another is the text beside it.
+fn tells_each(rt: &(impl Abort + AllocGlobal), table: &[(usize, u8, &str)]) -> Result<(), Fail> {
+    for (place, byte, report) in table {
+        let mut file = EXAMPLE;
+        assert!(rt; *place < file.len());
+        file[*place] = *byte;
+        tells(rt, &file, report)?;
+    }
+    Ok(())
 }
 
 #[test]
@@ -43,24 +46,21 @@ fn the_example(rt: HostRuntime) -> Result<(), Fail> {
 
 #[test]
 fn every_kind(rt: HostRuntime) -> Result<(), Fail> {
-    tells(&rt, &CRC, KIND_REPORT)?;
-    tells(&rt, &TOEPLITZ, KIND_REPORT)?;
-    tells(&rt, &MAC_C, KIND_REPORT)?;
-    tells(&rt, &PARITY_CRC, KIND_REPORT)?;
-    tells(&rt, &PARITY_TOEPLITZ, KIND_REPORT)?;
-    tells(&rt, &PARITY_MAC_C, KIND_REPORT)
+    for file in KINDS {
+        tells(&rt, file, KIND_REPORT)?;
+    }
+    Ok(())
 }
 
 // A file that ends too early is told at the field that it cuts.
 #[test]
 fn cut_at_every_byte(rt: HostRuntime) -> Result<(), Fail> {
     for len in 0..EXAMPLE.len() {
-        let mut place = 0;
-        for field in FIELDS {
-            if field <= len {
-                place = field;
-            }
-        }
+        let place = FIELDS
+            .iter()
+            .filter(|field| **field <= len)
+            .max()
+            .unwrap_or(&0);
         let line = format!(in rt.alloc(); "file refused 51 at {place}\n")?;
         tells(&rt, &EXAMPLE[0..len], line.as_str())?;
     }
@@ -69,24 +69,29 @@ fn cut_at_every_byte(rt: HostRuntime) -> Result<(), Fail> {
 
 #[test]
 fn faults_of_fields(rt: HostRuntime) -> Result<(), Fail> {
-    edited(&rt, 0, 0, "file refused 52 at 0\n")?;
-    edited(&rt, 0, 2, "file refused 52 at 0\n")?;
-    edited(&rt, 1, 0, "file refused 53 at 1\n")?;
-    edited(&rt, 1, 4, "file refused 53 at 1\n")?;
-    edited(&rt, 1, 16, "file refused 53 at 1\n")?;
-    edited(&rt, 1, 20, "file refused 53 at 1\n")?;
-    edited(&rt, 1, 33, "file refused 53 at 1\n")?;
-    edited(&rt, 23, 2, "file refused 53 at 23\n")?;
-    edited(&rt, 23, 255, "file refused 53 at 23\n")?;
-    edited(&rt, 24, 4, "file refused 52 at 24\n")?;
-    edited(&rt, 25, 1, "file refused 54 at 36\n")?;
-    edited(&rt, 42, 1, "file refused 52 at 42\n")?;
-    edited(&rt, 43, 201, "file refused 52 at 42\n")?;
-    edited(&rt, 43, 3, "file refused 54 at 86\n")?;
-    edited(&rt, 43, 0, "file refused 54 at 44\n")?;
-    edited(&rt, 43, 5, "file refused 51 at 100\n")?;
-    edited(&rt, 90, 10, "file refused 51 at 91\n")?;
-    edited(&rt, 90, 8, "file refused 54 at 99\n")
+    tells_each(
+        &rt,
+        &[
+            (0, 0, "file refused 52 at 0\n"),
+            (0, 2, "file refused 52 at 0\n"),
+            (1, 0, "file refused 53 at 1\n"),
+            (1, 4, "file refused 53 at 1\n"),
+            (1, 16, "file refused 53 at 1\n"),
+            (1, 20, "file refused 53 at 1\n"),
+            (1, 33, "file refused 53 at 1\n"),
+            (23, 2, "file refused 53 at 23\n"),
+            (23, 255, "file refused 53 at 23\n"),
+            (24, 4, "file refused 52 at 24\n"),
+            (25, 1, "file refused 54 at 36\n"),
+            (42, 1, "file refused 52 at 42\n"),
+            (43, 201, "file refused 52 at 42\n"),
+            (43, 3, "file refused 54 at 86\n"),
+            (43, 0, "file refused 54 at 44\n"),
+            (43, 5, "file refused 51 at 100\n"),
+            (90, 10, "file refused 51 at 91\n"),
+            (90, 8, "file refused 54 at 99\n"),
+        ],
+    )
 }
 
 // The first fault in the file's order is told, whatever stands behind it; a fault of the file comes before one of the key.
@@ -108,14 +113,19 @@ fn the_first_fault(rt: HostRuntime) -> Result<(), Fail> {
 
 #[test]
 fn keys_that_are_refused(rt: HostRuntime) -> Result<(), Fail> {
-    edited(&rt, 2, 2, "key refused 1\n")?;
-    edited(&rt, 2, 64, "key refused 1\n")?;
-    edited(&rt, 3, 128, "key refused 2\n")?;
-    edited(&rt, 10, 2, "key refused 3\n")?;
-    edited(&rt, 18, 1, "key refused 4\n")?;
-    edited(&rt, 1, 2, "key refused 4\n")?;
-    edited(&rt, 10, 1, "key refused 6\n")?;
-    edited(&rt, 2, 44, "key refused 41\n")?;
+    tells_each(
+        &rt,
+        &[
+            (2, 2, "key refused 1\n"),
+            (2, 64, "key refused 1\n"),
+            (3, 128, "key refused 2\n"),
+            (10, 2, "key refused 3\n"),
+            (18, 1, "key refused 4\n"),
+            (1, 2, "key refused 4\n"),
+            (10, 1, "key refused 6\n"),
+            (2, 44, "key refused 41\n"),
+        ],
+    )?;
     let mut wide = PARITY_MAC_C;
     wide[2] = 63;
     tells(&rt, &wide, "key refused 7\n")
@@ -124,23 +134,17 @@ fn keys_that_are_refused(rt: HostRuntime) -> Result<(), Fail> {
 // With the allowance 0 nothing is mended.
 #[test]
 fn nothing_allowed(rt: HostRuntime) -> Result<(), Fail> {
-    edited(
-        &rt,
-        23,
-        0,
-        "slot 1 opened 1\nslot 2 refused 26\nslot 2 refused 26\nslot 3 refused 25\nopened 1 mended 0 refused 3\n",
-    )
+    let report =
+        "slot 1 opened 1\nslot 2 refused 26\nslot 2 refused 26\nslot 3 refused 25\nopened 1 mended 0 refused 3\n";
+    tells_each(&rt, &[(23, 0, report)])
 }
 
 // The door's number is bound to a frame.
 #[test]
 fn another_door(rt: HostRuntime) -> Result<(), Fail> {
-    edited(
-        &rt,
-        22,
-        1,
-        "slot 1 refused 28\nslot 2 refused 27\nslot 2 refused 27\nslot 3 refused 25\nopened 0 mended 0 refused 4\n",
-    )
+    let report =
+        "slot 1 refused 28\nslot 2 refused 27\nslot 2 refused 27\nslot 3 refused 25\nopened 0 mended 0 refused 4\n";
+    tells_each(&rt, &[(22, 1, report)])
 }
 
 #[test]
@@ -171,43 +175,26 @@ fn of_size(heap: Global, words: u16, frames: u16) -> Result<Vec<u8>, AllocError>
 
 #[test]
 fn limits(rt: HostRuntime) -> Result<(), Fail> {
-    let heap = rt.alloc();
     tells(&rt, &[], "file refused 51 at 0\n")?;
-    tells(
-        &rt,
-        of_size(heap, 0, 0)?.as_slice(),
-        "opened 0 mended 0 refused 0\n",
-    )?;
-    tells(
-        &rt,
-        of_size(heap, 1024, 0)?.as_slice(),
-        "opened 0 mended 0 refused 0\n",
-    )?;
-    tells(
-        &rt,
-        of_size(heap, 1025, 0)?.as_slice(),
-        "file refused 52 at 24\n",
-    )?;
-    sums_up(
-        &rt,
-        of_size(heap, 0, 200)?.as_slice(),
-        "slot 1 refused 22\nopened 0 mended 0 refused 200\n",
-    )?;
-    sums_up(
-        &rt,
-        of_size(heap, 1024, 200)?.as_slice(),
-        "slot 1 refused 22\nopened 0 mended 0 refused 200\n",
-    )?;
-    tells(
-        &rt,
-        of_size(heap, 0, 201)?.as_slice(),
-        "file refused 52 at 26\n",
-    )?;
-    tells(
-        &rt,
-        of_size(heap, 1024, 201)?.as_slice(),
-        "file refused 52 at 8218\n",
-    )
+    for (words, frames, report) in [
+        (0, 0, "opened 0 mended 0 refused 0\n"),
+        (1024, 0, "opened 0 mended 0 refused 0\n"),
+        (1025, 0, "file refused 52 at 24\n"),
+        (0, 201, "file refused 52 at 26\n"),
+        (1024, 201, "file refused 52 at 8218\n"),
+    ] {
+        let file = of_size(rt.alloc(), words, frames)?;
+        tells(&rt, file.as_slice(), report)?;
+    }
+    for words in [0, 1024] {
+        let file = of_size(rt.alloc(), words, 200)?;
+        sums_up(
+            &rt,
+            file.as_slice(),
+            "slot 1 refused 22\nopened 0 mended 0 refused 200\n",
+        )?;
+    }
+    Ok(())
 }
 
 // A buffer that just holds the report takes it.
