@@ -1,5 +1,5 @@
 -- `figures_proved`: the figures in their order, by computation.
-use Rattle.std.proofs.Common.{refl, arith}
+use Rattle.std.proofs.Common.{refl, rules}
 use lib.Count.{ones, ones_in}
 use Rattle.account.specs.Sealing.{frame_under}
 use Rattle.bits.specs.Bits.{bits_of}
@@ -11,44 +11,38 @@ use Rattle.lfsr.specs.Register.{step}
 use Rattle.lfsr.specs.Keys.{evened, toeplitz, mac_c}
 use Rattle.parity.specs.Layered.{odded}
 use Rattle.figures.specs.Figures.{raw_key, raw_crc}
-use Rattle.figures.proofs.Forms.{register_formed, crc-formed, admitted, refused}
+use Rattle.figures.proofs.Forms.{admitted, refused}
 use Rattle.figures.proofs.figures_proved.Goals as goal
 
-pub returns : goal.returns
+pub returns-clause-stand : goal.returns-clause-stand
 unfolding bits_of step evened times_x odded ones ones_in frame_under tag_size bound_word
-returns c =
-    record {
-      count = refl;
-      stand = (
+returns-clause-stand c = (
+  refl,
+  (
+    admitted Nonzero (raw_key 4 7) (mac_c (raw_key 4 7)) (search rules) refl,
+    (
+      refused Nonzero (raw_key 4 8) (mac_c (raw_key 4 8)) (search rules) refl,
+      (
         refl,
         (
-          admitted Nonzero (raw_key 4 7) (mac_c (raw_key 4 7)) (register_formed 4 7 (omega arith) (omega arith) (omega arith) (omega arith)) refl,
+          refl,
           (
-            refused Nonzero (raw_key 4 8) (mac_c (raw_key 4 8)) (register_formed 4 8 (omega arith) (omega arith) (omega arith) (omega arith)) refl,
+            refl,
             (
               refl,
               (
-                refl,
+                admitted Nonzero (raw_key 5 4) (toeplitz (raw_key 5 4)) (search rules) refl,
                 (
-                  refl,
+                  refused Nonzero (raw_key 5 5) (toeplitz (raw_key 5 5)) (search rules) refl,
                   (
                     refl,
                     (
-                      admitted Nonzero (raw_key 5 4) (toeplitz (raw_key 5 4)) (register_formed 5 4 (omega arith) (omega arith) (omega arith) (omega arith)) refl,
+                      refl,
                       (
-                        refused Nonzero (raw_key 5 5) (toeplitz (raw_key 5 5)) (register_formed 5 5 (omega arith) (omega arith) (omega arith) (omega arith)) refl,
+                        admitted Zero (raw_crc 3) (crc (raw_crc 3)) (search rules) refl,
                         (
-                          refl,
-                          (
-                            refl,
-                            (
-                              admitted Zero (raw_crc 3) (crc (raw_crc 3)) (crc-formed 3 (omega arith) (omega arith)) refl,
-                              (
-                                refused Zero (raw_crc 4) (crc (raw_crc 4)) (crc-formed 4 (omega arith) (omega arith)) refl,
-                                (refl, (refl, tt)),
-                              ),
-                            ),
-                          ),
+                          refused Zero (raw_crc 4) (crc (raw_crc 4)) (search rules) refl,
+                          (refl, (refl, tt)),
                         ),
                       ),
                     ),
@@ -58,5 +52,7 @@ returns c =
             ),
           ),
         ),
-      );
-    }
+      ),
+    ),
+  ),
+)
