@@ -36,9 +36,19 @@ mod tests {
     // 119 bytes are sealed, 0 and 120 are refused with 12; a spent slot is refused first, with 11.
     #[test]
     fn payload_lengths(rt: HostRuntime) -> Result<(), Fail> {
-        for (slot, len, answer) in [(1, 1, 9), (1, 119, 127), (1, 0, 12), (1, 120, 12), (0, 0, 11)] {
+        for (slot, len, answer) in [
+            (1, 1, 9),
+            (1, 119, 127),
+            (1, 0, 12),
+            (1, 120, 12),
+            (0, 0, 11),
+        ] {
             let payload = vec![in rt.alloc(); 0; len]?;
-            assert_eq!(rt; sealed(slot, payload.as_slice())?, answer, "slot {slot}, {len} bytes");
+            assert_eq!(rt;
+                sealed(slot, payload.as_slice())?,
+                answer,
+                "slot {slot}, {len} bytes"
+            );
         }
         Ok(())
     }
