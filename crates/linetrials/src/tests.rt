@@ -163,13 +163,13 @@ fn frames_of_no_bytes_and_of_255(rt: HostRuntime) -> Result<(), Fail> {
 fn of_size(heap: Global, words: u16, frames: u16) -> Result<Vec<u8>, AllocError> {
     let mut file = EXAMPLE[0..24].to_vec(heap)?;
     file.extend_from_slice(&words.to_be_bytes())?;
-    for _word in 0..words {
-        file.extend_from_slice(&[0; 8])?;
-    }
+    file.extend_from_slice([0; 8].repeat(heap, usize::from(words))?.as_slice())?;
     file.extend_from_slice(&frames.to_be_bytes())?;
-    for _frame in 0..frames {
-        file.extend_from_slice(&[0, 0, 0, 1, 0])?;
-    }
+    file.extend_from_slice(
+        [0, 0, 0, 1, 0]
+            .repeat(heap, usize::from(frames))?
+            .as_slice(),
+    )?;
     Ok(file)
 }
 

@@ -24,24 +24,22 @@ mod tests {
         ReaderEnd::new(key()?, door).map_err(Fail::new)
     }
 
-    // The length of the frame of a payload, or the number that sealing it is refused with.
-    fn sealed(slot: u32, payload: &[u8]) -> Result<usize, Fail> {
+    // The length of a payload's frame, or the number that sealing it is refused with.
+    fn sealed(slot: u32, payload: &[u8]) -> Result<Result<usize, u32>, Fail> {
         let mut out = [0; 127];
-        match reader_of(0)?.seal(slot, payload, &mut out, &PadBook::new(&WORDS)) {
-            Ok(size) => Ok(size),
-            Err(refusal) => Ok(refusal.number() as usize),
-        }
+        let answer = reader_of(0)?.seal(slot, payload, &mut out, &PadBook::new(&WORDS));
+        Ok(answer.map_err(|refusal| refusal.number()))
     }
 
     // 119 bytes are sealed, 0 and 120 are refused with 12; a spent slot is refused first, with 11.
     #[test]
     fn payload_lengths(rt: HostRuntime) -> Result<(), Fail> {
         for (slot, len, answer) in [
-            (1, 1, 9),
-            (1, 119, 127),
-            (1, 0, 12),
-            (1, 120, 12),
-            (0, 0, 11),
+            (1, 1, Ok(9)),
+            (1, 119, Ok(127)),
+            (1, 0, Err(12)),
+            (1, 120, Err(12)),
+            (0, 0, Err(11)),
         ] {
             let payload = vec![in rt.alloc(); 0; len]?;
             assert_eq!(rt;
