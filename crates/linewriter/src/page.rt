@@ -1,6 +1,6 @@
 //! The page that a report is written into.
-ghost use Rattle.std.specs.Prelude.{◌≡◌, []};
-ghost use Rattle.linewriter.specs.Pages.{Adds, written};
+ghost use Rattle.std.specs.Prelude.{◌≡◌, ◌≤◌, [], length};
+ghost use Rattle.linewriter.specs.Pages.{Adds, page_size, written};
 
 use arrayvec::ArrayVec;
 use thiserror::Error;
@@ -29,7 +29,8 @@ impl Page {
 
     // What is written so far.
     pub fn as_slice(&self) -> &[u8]
-        ensures { result.now ≡ written self.now }
+        ensures value { result.now ≡ written self.now }
+        ensures fits { length result.now ≤ page_size }
     {
         self.bytes.as_slice()
     }
