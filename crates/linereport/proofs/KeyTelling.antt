@@ -1,16 +1,11 @@
 -- A file under its key: which exit answers which questions.
-use Rattle.std.proofs.Common.{◌≡◌, ℕ, leb, List, [], ◌∷◌, ◌++◌, Some, None, Ok, Err, Result, sym, refl, ◌∙◌, subst, ap₂, arith}
+use Rattle.std.proofs.Common.{◌≡◌, ℕ, List, ◌++◌, Ok, Err, Result, sym, ◌∙◌, subst, ap₂}
 use Rattle.family.specs.declared.raw.RawKey.{RawKey}
 use Rattle.family.specs.Meaning.{Meaning}
 use Rattle.family.specs.Questions.{AllYes, FirstNo, Asked}
 use Rattle.family.proofs.Asking.{yes_append, no_early, no_late}
 use Rattle.pads.specs.Sources.{book_words}
-use Rattle.account.specs.Questions as account
-use Rattle.account.specs.Questions.{first_refusal}
-use Rattle.account.specs.Keys.{key_questions, door_questions}
-use Rattle.account.specs.Ends.{EndState, Reaches, new_end}
-use Rattle.account.proofs.Verdicts.{refused-then}
-use Rattle.ends.proofs.Reach.{reaching_lasts}
+use Rattle.account.specs.Ends.{EndState, new_end}
 use Rattle.linefile.specs.declared.key.KeyFamily.{KeyFamily}
 use Rattle.linefile.specs.declared.key.KeyRecord.{KeyRecord}
 use Rattle.linefile.specs.File.{Contents}
@@ -25,20 +20,7 @@ use Rattle.linereport.specs.Report.{frame_lines, summed_up, page_under}
 
 -- ---- at the door's end
 
--- where all questions are answered yes, the first of them are
-front_passes : (qs rs : List account.Question) → first_refusal (qs ++ rs) ≡ None → first_refusal qs ≡ None
-front_passes qs rs e = go (first_refusal qs) refl
-  where
-    go : (o : _) → first_refusal qs ≡ o → o ≡ None
-    go None h = refl
-    go (Some r) h = absurd (let both = refused-then qs rs r h in let z : ◌≡◌ {A = ℕ} 0 1 = cc in omega arith)
-
--- an end that was created with a key reaches every text
-pub created-reaches : (key : Meaning) (number allowance : ℕ) (h : EndState) → first_refusal (door_questions key allowance) ≡ None → h ≡ new_end key number allowance → Reaches h
-created-reaches key number allowance h e s =
-    subst Reaches (sym s) (reaching_lasts.created key number allowance (front_passes (key_questions key) (account.asks (leb allowance 1) 43 ∷ []) e))
-
--- and what it tells of a file's frames is the page under that key
+-- what an end that was created with a key tells of a file's frames is the page under that key
 pub tells_page : (key : Meaning) (c : Contents) (words : List ℕ) (h : EndState) (text : List ℕ) → words ≡ c.words → h ≡ new_end key c.key.door c.key.allowance
     → text ≡ frame_lines c.frames (answers (book_words words) h c.frames) ++ summed_up (totals_of (answers (book_words words) h c.frames))
     → text ≡ page_under key c

@@ -2,7 +2,7 @@
 use Rattle.std.proofs.Common.{◌≡◌, ℕ, suc, ◌+◌, ◌*◌, ◌≤◌, List, [], ◌∷◌, ◌++◌, length, sum_by, sym, ap, ◌∙◌, ap₂, append_assoc, append-nil, arith, length-append}
 use Rattle.std.proofs.lemmas.List.Sums.{sum_by-cons}
 use Rattle.account.specs.Calls.{Pads, Answer}
-use Rattle.account.specs.Ends.{EndState, Reaches}
+use Rattle.account.specs.Ends.{EndState}
 use Rattle.linefile.specs.File.{SentFrame, most_frames}
 use Rattle.linewriter.specs.declared.totals.Totals.{Totals}
 use Rattle.linewriter.specs.Lines.{frame_line}
@@ -23,25 +23,6 @@ pub record SoFar (pads : Pads) (first : EndState) (all : List SentFrame) (here :
   pub refused : t.refused + sum_by counts_refused (answers pads here left) ≡ sum_by counts_refused (answers pads first all)
   pub short : length text + longest_line * length left ≤ longest_line * most_frames
   pub few : t.opened + t.mended + t.refused + length left ≤ most_frames
-  pub reaches : Reaches here
-
--- nothing is told yet
-pub so_far_none : (pads : Pads) (first : EndState) (all : List SentFrame) (text : List ℕ) (t : Totals)
-    → text ≡ [] → t ≡ totals_of [] → length all ≤ most_frames → Reaches first → SoFar pads first all first all text t
-so_far_none pads first all text t e f few reaches =
-    record {
-      lines = ap (λ (x : List ℕ). x ++ frame_lines all (answers pads first all)) e;
-      opened = ap (λ (x : Totals). x.opened + sum_by counts_opened (answers pads first all)) f ∙ (omega arith);
-      mended = ap (λ (x : Totals). x.mended + sum_by counts_mended (answers pads first all)) f ∙ (omega arith);
-      refused = ap (λ (x : Totals). x.refused + sum_by counts_refused (answers pads first all)) f ∙ (omega arith);
-      short = let n : length text ≡ 0 = ap length e in omega arith;
-      few =
-          let a : t.opened ≡ 0 = ap (λ (x : Totals). x.opened) f in
-          let b : t.mended ≡ 0 = ap (λ (x : Totals). x.mended) f in
-          let c : t.refused ≡ 0 = ap (λ (x : Totals). x.refused) f in
-          omega arith;
-      reaches = reaches;
-    }
 
 -- ---- one more
 
@@ -49,11 +30,11 @@ so_far_none pads first all text t e f few reaches =
 pub so_far_more : (pads : Pads) (first : EndState) (all : List SentFrame) (here : EndState) (f : SentFrame) (left left' : List SentFrame) (text : List ℕ) (t : Totals)
     (a : Answer) (here' : EndState) (text' : List ℕ) (t' : Totals)
     → SoFar pads first all here left text t → left ≡ f ∷ left'
-    → a ≡ (frame_reply pads here f).answer → here' ≡ (frame_reply pads here f).after → Reaches here'
+    → a ≡ (frame_reply pads here f).answer → here' ≡ (frame_reply pads here f).after
     → text' ≡ text ++ frame_line f.slot a → length (frame_line f.slot a) ≤ longest_line → t' ≡ counted t a
     → SoFar pads first all here' left' text' t'
 unfolding answers
-so_far_more pads first all here f left left' text t a here' text' t' s e ea eh r et el ec =
+so_far_more pads first all here f left left' text t a here' text' t' s e ea eh et el ec =
     let rest = answers pads here' left' in
     let told : answers pads here left ≡ a ∷ rest =
     ap (answers pads here) e ∙ ap₂ (λ (x : Answer) (h : EndState). x ∷ answers pads h left') (sym ea) (sym eh) in
@@ -76,20 +57,12 @@ so_far_more pads first all here f left left' text t a here' text' t' s e ea eh r
           let long : length text' ≡ length text + length (frame_line f.slot a) = ap length et ∙ length-append text (frame_line f.slot a) in
           let sh = s.short in omega arith;
       few = omega arith;
-      reaches = r;
     }
   where
     count_more : (count : Answer → ℕ) (n n' : ℕ) (xs rest : List Answer) (whole : ℕ) → xs ≡ a ∷ rest → n' ≡ n + count a → n + sum_by count xs ≡ whole → n' + sum_by count rest ≡ whole
     count_more count n n' xs rest whole x y z =
         let w : sum_by count xs ≡ count a + sum_by count rest = ap (sum_by count) x ∙ sum_by-cons count a rest in
         omega arith
-
--- there is room for the next line
-pub room-for_line : (pads : Pads) (first : EndState) (all : List SentFrame) (here : EndState) (f : SentFrame) (left left' : List SentFrame) (text : List ℕ) (t : Totals) (size : ℕ)
-    → SoFar pads first all here left text t → left ≡ f ∷ left' → size ≤ longest_line → length text + size ≤ longest_line * most_frames
-room-for_line pads first all here f left left' text t size s e h =
-    let n : length left ≡ suc (length left') = ap length e in
-    let sh = s.short in omega arith
 
 -- all is told
 pub so_far_all : (pads : Pads) (first : EndState) (all : List SentFrame) (here : EndState) (left : List SentFrame) (text : List ℕ) (t : Totals)

@@ -1,6 +1,5 @@
 //! What a door's end makes of frames.
 ghost use Rattle.std.specs.Prelude.{◌≡◌, ◌++◌};
-ghost use Rattle.account.specs.Ends.{Reaches};
 ghost use Rattle.ends.specs.States.{door_state};
 ghost use Rattle.linefile.specs.Parsed.{frames_of, sent_of};
 ghost use Rattle.linereport.specs.Frames.{answers, frame_reply};
@@ -21,14 +20,11 @@ fn open<F: Family + Drop, P: PadSource>(
     frame: Frame<'_>,
     pads: &P,
 ) -> Result<Opened, OpenRefusal>
-    requires { Reaches (door_state F.meaning door.old) }
     ensures answer { open_answer result ≡ (frame_reply (P.words pads.now) (door_state F.meaning door.old) (sent_of frame.entry)).answer }
     ensures after { door_state F.meaning door.new ≡ (frame_reply (P.words pads.now) (door_state F.meaning door.old) (sent_of frame.entry)).after }
-    ensures reaches { Reaches (door_state F.meaning door.new) }
 {
     let mut payload = [0u8; LONGEST_PAYLOAD];
-    let opened = door.open(frame.slot, frame.bytes, &mut payload, pads)?;
-    Ok(opened)
+    door.open(frame.slot, frame.bytes, &mut payload, pads)
 }
 
 // Opens frames in order: a line for each, and how many there are of each sort.
@@ -37,20 +33,15 @@ pub(crate) fn tell_frames<F: Family + Drop, P: PadSource>(
     frames: &FrameList<'_>,
     pads: &P,
 ) -> Page
-    requires { Reaches (door_state F.meaning door.old) }
     ensures { written result ≡ frame_lines (frames_of frames.now) (answers (P.words pads.now) (door_state F.meaning door.old) (frames_of frames.now)) ++ summed_up (totals_of (answers (P.words pads.now) (door_state F.meaning door.old) (frames_of frames.now))) }
 {
     let mut page = Page::blank();
     let mut totals = Totals::none();
     for frame in frames.as_slice() {
         let answer = open(door, *frame, pads);
-        let Ok(()) = page.frame_line(frame.slot, &answer) else {
-            unreachable()
-        };
+        page.frame_line(frame.slot, &answer).unwrap();
         totals.count(&answer);
     }
-    let Ok(()) = page.totals_line(&totals) else {
-        unreachable()
-    };
+    page.totals_line(&totals).unwrap();
     page
 }

@@ -1,14 +1,9 @@
--- A door's end that was created reaches every text, and tells the page under its key.
+-- A door's end that was created tells the page under its key.
 use Rattle.std.proofs.Common.{◌∙◌}
 use Rattle.ends.specs.States.{door_state}
 use Rattle.linefile.specs.Parsed.{contents_of}
-use Rattle.linereport.proofs.KeyTelling.{created-reaches, tells_page}
+use Rattle.linereport.proofs.KeyTelling.{tells_page}
 use Rattle.linereport.proofs.keys.tell_under.Goals as goal
-
-pub tell_frames-requires : goal.tell_frames-requires
-tell_frames-requires g c =
-    let made = c.in_ok-door.ensures in
-    created-reaches (g.F.Family.meaning c.args.key) c.args.file.now.key.door c.args.file.now.key.allowance (door_state g.F.Family.meaning c.in_ok-door.door) made.0 made.1
 
 pub returns : goal.returns
 returns g c =
