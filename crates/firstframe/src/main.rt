@@ -33,22 +33,18 @@ fn shared_pads() -> CipherSource {
 
 // At the reader: a payload is sealed into a frame.
 fn at_the_reader(heap: Global, payload: &[u8]) -> anyhow::Result<Vec<u8>> {
-    let mut reader = ReaderEnd::new(shared_key()?, DOOR).map_err(Error::msg)?;
+    let mut reader = ReaderEnd::new(shared_key()?, DOOR)?;
     let mut frame = vec![in heap; 0; LONGEST_PAYLOAD + 8]?;
-    let len = reader
-        .seal(SLOT, payload, frame.as_mut_slice(), &shared_pads())
-        .map_err(Error::msg)?;
+    let len = reader.seal(SLOT, payload, frame.as_mut_slice(), &shared_pads())?;
     frame.truncate(len);
     Ok(frame)
 }
 
 // At the door: the frame is opened, and one changed bit is put right.
 fn at_the_door(heap: Global, frame: &[u8]) -> anyhow::Result<Vec<u8>> {
-    let mut door = DoorEnd::new(shared_key()?, DOOR, 1).map_err(Error::msg)?;
+    let mut door = DoorEnd::new(shared_key()?, DOOR, 1)?;
     let mut payload = vec![in heap; 0; LONGEST_PAYLOAD]?;
-    let opened = door
-        .open(SLOT, frame, payload.as_mut_slice(), &shared_pads())
-        .map_err(Error::msg)?;
+    let opened = door.open(SLOT, frame, payload.as_mut_slice(), &shared_pads())?;
     payload.truncate(opened.len);
     Ok(payload)
 }

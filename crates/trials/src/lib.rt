@@ -21,7 +21,7 @@ mod tests {
     }
 
     fn reader_of(door: u32) -> Result<ReaderEnd<CrcKey>, Fail> {
-        ReaderEnd::new(key()?, door).map_err(Fail::new)
+        Ok(ReaderEnd::new(key()?, door)?)
     }
 
     // The length of a payload's frame, or the number that sealing it is refused with.
@@ -55,10 +55,10 @@ mod tests {
     #[test]
     fn frame_of_another_door(rt: HostRuntime) -> Result<(), Fail> {
         let mut reader = reader_of(1)?;
-        let mut door = DoorEnd::new(key()?, 0, 1).map_err(Fail::new)?;
+        let mut door = DoorEnd::new(key()?, 0, 1)?;
         let book = PadBook::new(&WORDS);
         let mut frame = [0; 9];
-        let size = reader.seal(2, &[0], &mut frame, &book).map_err(Fail::new)?;
+        let size = reader.seal(2, &[0], &mut frame, &book)?;
         assert_eq!(rt; size, 9);
         let mut payload = [7; 1];
         let Err(refusal) = door.open(2, &frame, &mut payload, &book) else {

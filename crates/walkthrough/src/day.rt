@@ -210,8 +210,8 @@ pub(crate) fn show(rt: &HostRuntime) -> anyhow::Result<()> {
     let first = key(3)?;
     let mut day = Day {
         rt,
-        reader: ReaderEnd::new(first, DOOR).map_err(Error::msg)?,
-        door: DoorEnd::new(first, DOOR, 1).map_err(Error::msg)?,
+        reader: ReaderEnd::new(first, DOOR)?,
+        door: DoorEnd::new(first, DOOR, 1)?,
     };
     day.morning()?;
     day.afternoon()?;
