@@ -8,5 +8,4 @@ pub mod Thinning
 pub mod Running
 pub mod Origins
 pub mod Sequences
-pub mod Verdicts
 pub mod Refusing

@@ -79,3 +79,13 @@ module _ (column : ℕ → ℕ) (extra : ℕ) (meant : RawKey → Meaning) (laws
       subst (λ w. AllByRecursion (λ c. c < 2 ^ w) (k.columns m)) (sym wide)
       (subst (AllByRecursion (λ c. c < 2 ^ (n + extra))) (sym (laws.columns raw m))
       (all_column column n (n + extra) (laws.below n) (states raw m) (orbit_below f n (λ a _. step-below n raw.coefficients a some) m raw.state g.started.1))))
+
+-- so every Toeplitz key keeps the law
+pub toeplitz_lawful : (g : Register) → NoneZero ((toeplitz g.raw).columns g.raw.reach ++ units g.raw.degree)
+    → AllDifferent ((toeplitz g.raw).columns g.raw.reach ++ units g.raw.degree) → Lawful (toeplitz g.raw)
+toeplitz_lawful = register_lawful (λ s. s) 0 toeplitz toeplitz_columns
+
+-- and every MAC-C key
+pub mac_c_lawful : (g : Register) → NoneZero ((mac_c g.raw).columns g.raw.reach ++ units (g.raw.degree + 1))
+    → AllDifferent ((mac_c g.raw).columns g.raw.reach ++ units (g.raw.degree + 1)) → Lawful (mac_c g.raw)
+mac_c_lawful = register_lawful evened 1 mac_c mac_c_columns
