@@ -95,7 +95,7 @@ fn initial_state(key: &[u8; 32], nonce: &[u8; 12], counter: u32) -> [u32; 16]
 fn add_words(state: &mut [u32; 16], initial: &[u32; 16])
     ensures { state.new ≡ sums state.old initial.now }
 {
-    // Indexed on one side: nothing is known of what is written behind an adapter of `iter_mut`.
+    // Indexed on one side: nothing is known of what is written behind an adapter of `iter_mut`, and `array::from_fn` indexes both.
     for (i, word) in initial.iter().enumerate() {
         state[i] = state[i].wrapping_add(*word);
     }

@@ -17,7 +17,8 @@ pub(crate) struct Generator {
     ghost reach: { (1 ≤ raw.reach) × (raw.reach ≤ longest_reach) },
 }
 
-// One admitted key: at its reach all columns and unit columns are different, and none is zero.
+// One admitted key, of a type of its own: its admission promises more than that of the register's keys (that powers are
+// remainders), which one shared call could not say. At its reach all columns and unit columns are different, and none is zero.
 #[derive(Clone, Copy)]
 pub struct CrcKey {
     pub(crate) generator: Generator,

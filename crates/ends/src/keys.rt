@@ -14,7 +14,7 @@ pub const NEEDED_WIDTH: u32 = 45;
 // The reach of every key that serves an end: that of the longest text.
 pub const NEEDED_REACH: u32 = 1016;
 
-// A key that can serve an end. There is no other: it reaches every text.
+// A key that an end took, at its creation or when it was appointed: it reaches every text.
 #[derive(Drop)]
 pub(crate) struct ServingKey<F: Family> {
     pub key: F,

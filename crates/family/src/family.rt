@@ -25,7 +25,8 @@ pub trait Family {
     fn distance(&self) -> u32
         ensures { result ≡ (meaning self.now).distance };
 
-    // The digest of the first m bits of a text: the ⊕ of the columns at which it has a one.
+    // The digest of the first m bits of a text: the ⊕ of the columns at which it has a one. Text and m stay two parameters: a type
+    // that ties them would ask of callers what is refused here.
     fn digest(&self, text: &[u8], m: usize) -> Result<u64, OutOfReach>
         ensures { Asked (text_questions (meaning self.now).reach m text.now) reach_number (λ d. d ≡ digest_of (meaning self.now) m text.now) result };
 

@@ -13,8 +13,8 @@ pub trait Step {
         ensures { result ≡ stepped self.now number };
 }
 
-// So many numbers, each made from the one before it.
-#[derive(Clone, Copy)]
+// So many numbers, each made from the one before it. A type of its own, since a function cannot hand out a closure's iterator.
+#[derive(Drop)]
 pub struct Orbit<'a, S> {
     maker: &'a S,
     next: u64,

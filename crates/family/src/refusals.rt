@@ -21,6 +21,8 @@ pub enum AdmissionRefusal {
     Columns,
 }
 
+// Each refusal has a `number` of its own, here and in the crates above: a trait would leave every table, and ask every caller for
+// an import.
 impl AdmissionRefusal {
     pub fn number(&self) -> u32
         ensures { result ≡ admission_number self.now }

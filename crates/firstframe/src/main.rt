@@ -1,7 +1,7 @@
 //! From a raw key to the first opened frame: what an integrator writes, for a reader and for its door.
 #![tactic(auto)]
 
-use anyhow::Error;
+use arrayvec::ArrayVec;
 use bits::flip_bit;
 use crc::CrcKey;
 use ends::{DoorEnd, ReaderEnd};
@@ -9,13 +9,17 @@ use family::RawKey;
 use framing::LONGEST_PAYLOAD;
 use pads::CipherSource;
 use parity::Parity;
-use std::alloc::Global;
 
 const DOOR: u32 = 42;
 
 const SLOT: u32 = 1;
 
-// The key as both ends have it. A key of the top level: the parity layer over any family has distance 4.
+// Room for the longest frame, and for the longest payload: neither end needs a heap.
+type Frame = ArrayVec<u8, 127>;
+
+type Payload = ArrayVec<u8, LONGEST_PAYLOAD>;
+
+// The key as both ends have it, made here once more than in the other programs, so that this one can be read alone. A key of the top level: the parity layer over any family has distance 4.
 fn shared_key() -> anyhow::Result<Parity<CrcKey>> {
     let below = CrcKey::admit(RawKey {
         degree: 63,
@@ -23,7 +27,7 @@ fn shared_key() -> anyhow::Result<Parity<CrcKey>> {
         state: 0,
         reach: 1016,
     })?;
-    Parity::over(below).map_err(|_| Error::msg("the key is too wide for the layer"))
+    Ok(Parity::over(below)?)
 }
 
 // The pads as both ends have them.
@@ -32,27 +36,27 @@ fn shared_pads() -> CipherSource {
 }
 
 // At the reader: a payload is sealed into a frame.
-fn at_the_reader(heap: Global, payload: &[u8]) -> anyhow::Result<Vec<u8>> {
+fn at_the_reader(payload: &[u8]) -> anyhow::Result<Frame> {
     let mut reader = ReaderEnd::new(shared_key()?, DOOR)?;
-    let mut frame = vec![in heap; 0; LONGEST_PAYLOAD + 8]?;
+    let mut frame = Frame::from([0; 127]);
     let len = reader.seal(SLOT, payload, frame.as_mut_slice(), &shared_pads())?;
     frame.truncate(len);
     Ok(frame)
 }
 
 // At the door: the frame is opened, and one changed bit is put right.
-fn at_the_door(heap: Global, frame: &[u8]) -> anyhow::Result<Vec<u8>> {
+fn at_the_door(frame: &[u8]) -> anyhow::Result<Payload> {
     let mut door = DoorEnd::new(shared_key()?, DOOR, 1)?;
-    let mut payload = vec![in heap; 0; LONGEST_PAYLOAD]?;
+    let mut payload = Payload::from([0; LONGEST_PAYLOAD]);
     let opened = door.open(SLOT, frame, payload.as_mut_slice(), &shared_pads())?;
     payload.truncate(opened.len);
     Ok(payload)
 }
 
 fn main(rt: HostRuntime) -> anyhow::Result<()> {
-    let mut frame = at_the_reader(rt.alloc(), &2026u32.to_be_bytes())?;
+    let mut frame = at_the_reader(&2026u32.to_be_bytes())?;
     flip_bit(frame.as_mut_slice(), 11); // on the way
-    let payload = at_the_door(rt.alloc(), frame.as_slice())?;
+    let payload = at_the_door(frame.as_slice())?;
     println!(rt; "sealed {} bytes, opened {}", frame.len(), payload.len())?;
     let badge: [u8; 4] = payload.as_slice().try_into()?;
     println!(rt; "badge {}", u32::from_be_bytes(badge))?;

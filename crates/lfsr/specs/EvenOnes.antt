@@ -1,5 +1,5 @@
 -- States followed by the bit that makes their ones even.
-use Rattle.std.specs.Prelude.{◌≡◌, ℕ, ◌+◌, ◌*◌, ◌/◌, ◌%◌, ◌^◌, ◌<◌, List, ◌++◌, map, length, bit_xor, count_ones, slice_index}
+use Rattle.std.specs.Prelude.{◌≡◌, ℕ, ◌+◌, ◌*◌, ◌/◌, ◌%◌, ◌^◌, ◌<◌, ◌≢◌, List, ◌++◌, map, length, bit_xor, count_ones, slice_index}
 use Rattle.std.proofs.Common.{sym, ap, ◌∙◌, arith, add-one, pow-suc}
 use Rattle.std.proofs.lemmas.Nat.{xor_block, ones_cat}
 use Rattle.std.proofs.lemmas.List.{length-map, get_or-map}
@@ -10,7 +10,7 @@ use Rattle.family.proofs.Separates.{separate_left}
 use Rattle.family.proofs.OrbitColumns.{separate-from_units}
 use Rattle.lfsr.specs.Keys.{evened}
 
-pub evened-half : (a : ℕ) → evened a / 2 ≡ a
+evened-half : (a : ℕ) → evened a / 2 ≡ a
 unfolding evened
 evened-half a = omega arith
 
@@ -39,6 +39,10 @@ evened-xor a b =
     let low : bit_xor (count_ones a % 2) (count_ones b % 2) ≡ count_ones (bit_xor a b) % 2 =
     xor_digit (count_ones a % 2) (count_ones b % 2) (omega arith) (omega arith) ∙ omega (arith, ones_xor a b) in
     sym (xor_block 1 a b (count_ones a % 2) (count_ones b % 2) (omega arith) (omega arith) ∙ ap (λ x. bit_xor a b * 2 + x) low)
+
+-- a number that its upper bits do not make is made by no state
+pub uneven-none : (x : ℕ) → evened (x / 2) ≢ x → (s : ℕ) → evened s ≢ x
+uneven-none x n s e = n (ap (λ y. evened (y / 2)) (sym e) ∙ ap evened (evened-half s) ∙ e)
 
 -- with their unit columns they are separate just where the states are
 module _ (n : ℕ) (cs : List ℕ) where

@@ -14,16 +14,15 @@ use crate::register::Register;
 pub trait Column {
     ghost column: { ℕ → ℕ };
 
-    // how many bits a column has more than its state
-    ghost extra: { ℕ };
+    // How many bits a column has more than its state.
+    const EXTRA: u32;
+
+    ghost EXTRA: { ℕ };
 
     // what a raw key means
     ghost meant: { RawKey → Meaning };
 
-    ghost laws: { IsColumnOf column extra meant };
-
-    fn extra() -> u32
-        ensures { result ≡ extra };
+    ghost laws: { IsColumnOf column EXTRA meant };
 
     fn column(state: u64) -> u64
         requires { state < 2 ^ 63 }
@@ -45,15 +44,13 @@ pub struct Plain;
 impl Column for Plain {
     ghost column = { λ s. s };
 
-    ghost extra = { 0 };
+    const EXTRA: u32 = 0;
+
+    ghost EXTRA = { 0 };
 
     ghost meant = { toeplitz };
 
     ghost laws = { toeplitz_columns };
-
-    fn extra() -> u32 {
-        0
-    }
 
     fn column(state: u64) -> u64 {
         state
@@ -75,15 +72,13 @@ pub struct Evened;
 impl Column for Evened {
     ghost column = { evened };
 
-    ghost extra = { 1 };
+    const EXTRA: u32 = 1;
+
+    ghost EXTRA = { 1 };
 
     ghost meant = { mac_c };
 
     ghost laws = { mac_c_columns };
-
-    fn extra() -> u32 {
-        1
-    }
 
     fn column(state: u64) -> u64 {
         with_even_ones(state)

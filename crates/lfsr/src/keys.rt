@@ -24,7 +24,7 @@ pub struct RegisterKey<C: Column> {
     ghost different: { AllDifferent ((C.meant register.raw).columns register.raw.reach ++ units (C.meant register.raw).width) },
 }
 
-// Written out, since no derive takes a generic type whose ghost fields hold a fact.
+// Written out: a derive was tried, and takes no generic type whose ghost fields hold a fact.
 impl<C: Column> Clone for RegisterKey<C> {
     fn clone(&self) -> Result<Self, AllocError> {
         Ok(*self)
@@ -58,10 +58,10 @@ impl<C: Column> RegisterKey<C> {
 impl<C: Column> Family for RegisterKey<C> {
     ghost meaning = { λ k. C.Column.meant k.register.raw };
 
-    ghost lawful = { λ k. register_lawful C.Column.column C.Column.extra C.Column.meant C.Column.laws k.register k.nonzero k.different };
+    ghost lawful = { λ k. register_lawful C.Column.column C.Column.EXTRA C.Column.meant C.Column.laws k.register k.nonzero k.different };
 
     fn width(&self) -> u32 {
-        self.register.raw.degree + C::extra()
+        self.register.raw.degree + C::EXTRA
     }
 
     fn reach(&self) -> u32 {

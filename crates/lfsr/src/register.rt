@@ -12,7 +12,8 @@ ghost use Rattle.lfsr.specs.Register.{AnyUnit, feedback as feedback_bit, mirrore
 
 use family::{AdmissionRefusal, Orbit, RawKey, Start, Step};
 
-// A raw key whose numbers are in their ranges, with its coefficients laid along the register:
+// A raw key whose numbers are in their ranges (those of this family: its state is not zero, as a generator's is, so that the two
+// types say different things), with its coefficients laid along the register:
 // `taps` has the coefficient of x^i where the state has s_i.
 #[derive(Clone, Copy)]
 pub struct Register {
@@ -77,6 +78,7 @@ impl Register {
     }
 }
 
+// `advance` says more than the trait's clause; an impl that says it itself was tried, and its proof didn't close.
 impl Step for Register {
     ghost stepped = { λ g. step g.raw.degree g.raw.coefficients };
 

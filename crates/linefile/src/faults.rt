@@ -2,13 +2,18 @@
 ghost use Rattle.linefile.specs.File.{file_refusal, flaw_number};
 ghost use Rattle.std.specs.Prelude.{◌≡◌};
 
-// What a field is refused for: the file ends before the field does, a count is out of its limits, there is no such kind or
-// allowance, or bytes stand behind the last field.
-#[derive(Clone, Copy, Debug, PartialEq, Eq)]
+use thiserror::Error;
+
+// What a field is refused for.
+#[derive(Clone, Copy, Debug, PartialEq, Eq, Error)]
 pub enum Flaw {
+    #[error("the file ends before the field does")]
     CutShort,
+    #[error("the count is out of its limits")]
     OutOfLimits,
+    #[error("there is no such kind or allowance")]
     Unknown,
+    #[error("bytes stand behind the last field")]
     Trailing,
 }
 
@@ -33,7 +38,8 @@ impl Flaw {
 }
 
 // The first fault of a file, with the place of the first byte of the field that has it, counted from 0.
-#[derive(Clone, Copy, Debug, PartialEq, Eq)]
+#[derive(Clone, Copy, Debug, PartialEq, Eq, Error)]
+#[error("at byte {place}: {flaw}")]
 pub struct FileFault {
     pub flaw: Flaw,
     pub place: usize,

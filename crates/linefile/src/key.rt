@@ -32,6 +32,7 @@ pub struct KeyRecord {
     pub coefficients: u64,
     pub state: u64,
     pub door: u32,
+    // a number, as the creation of a door's end takes it
     pub allowance: u8,
 }
 
@@ -82,7 +83,7 @@ fn cut_key(left: &Left<'_>) -> FileFault
     }
 }
 
-// A key record: one pattern names each of its bytes.
+// A key record. One pattern names each of its bytes, in the order of the file: that is the form wanted of it.
 fn key_record(left: &mut Left<'_>) -> Result<KeyRecord, FileFault>
     ensures { MatchResult result (λ key. Passes key_record left.old key left.new) (Fails key_record left.old) }
 {

@@ -30,7 +30,7 @@ impl ReportRefusal {
     }
 }
 
-// The report on a file with a fault.
+// The report on a file with a fault. (This and the next are two lines each; a helper that takes the line would be longer.)
 fn fault_page(fault: FileFault) -> Page
     ensures { written result ≡ file_line (file_refusal fault).number (file_refusal fault).place }
 {
@@ -58,7 +58,7 @@ fn report(file: &[u8]) -> Page
     }
 }
 
-// Writes a text at the front of a buffer that holds it.
+// Writes a text at the front of a buffer, if it holds the text.
 fn put(text: &[u8], out: &mut [u8]) -> Result<usize, ReportRefusal>
     ensures { Answers report_refusal (room_questions text.now out.old) result (λ n. (n ≡ length text.now) × (out.new ≡ put_in_front text.now out.old)) (out.new ≡ out.old) }
 {

@@ -104,6 +104,7 @@ pub(crate) fn tell_file(file: &LineFile<'_>) -> Result<Page, RefusedKey>
     ensures { Asked (record_questions file.now.key) key_number (λ page. written page ≡ page_under (record_meaning file.now.key) (contents_of file.now)) result }
 {
     let raw = raw_key(&file.key);
+    // A match, since the three keys are of three types.
     match file.key.kind.family {
         KeyFamily::Crc => tell_laid(CrcKey::admit(raw)?, file),
         KeyFamily::Toeplitz => tell_laid(ToeplitzKey::admit(raw)?, file),

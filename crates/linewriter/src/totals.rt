@@ -4,7 +4,7 @@ ghost use Rattle.std.specs.Prelude.{◌≡◌, []};
 
 use framing::{OpenRefusal, Opened};
 
-#[derive(Clone, Copy, Debug, PartialEq, Eq)]
+#[derive(Clone, Copy, Debug, Default, PartialEq, Eq)]
 pub struct Totals {
     pub opened: usize,
     pub mended: usize,
@@ -16,11 +16,7 @@ impl Totals {
     pub fn none() -> Totals
         ensures { result ≡ totals_of [] }
     {
-        Totals {
-            opened: 0,
-            mended: 0,
-            refused: 0,
-        }
+        Totals::default()
     }
 
     // Counts what an open answered. A total that has reached the largest number stays there.

@@ -74,7 +74,8 @@ impl Page {
         ])
     }
 
-    // Writes a line of words with a number behind each, whole or not at all.
+    // Writes a line of words with a number behind each, whole or not at all. Not by `write!`: its clause says nothing of what a
+    // page holds where it refuses.
     fn write_line(&mut self, parts: &[(&str, u64)]) -> Result<(), Full>
         ensures { Adds result (line_of parts.now) self.old self.new }
     {

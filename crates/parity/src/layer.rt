@@ -8,6 +8,8 @@ ghost use Rattle.parity.specs.Layers.{layered-lawful};
 use crate::ones::{append_parity, text_parity};
 use family::{Family, OutOfReach};
 use std::alloc::AllocError;
+use std::fmt;
+use thiserror::Error;
 
 // The widest key that leaves room for the parity bit.
 const WIDEST_BELOW: u32 = 63;
@@ -19,7 +21,7 @@ pub struct Parity<F: Family> {
     ghost room: { (F.meaning below).width ≤ widest_below },
 }
 
-// Written out, since no derive takes a generic type whose ghost fields hold a fact.
+// Written out: a derive was tried, and takes no generic type whose ghost fields hold a fact.
 impl<F: Family + Copy> Clone for Parity<F> {
     fn clone(&self) -> Result<Self, AllocError> {
         Ok(*self)
@@ -29,9 +31,17 @@ impl<F: Family + Copy> Clone for Parity<F> {
 impl<F: Family + Copy> Copy for Parity<F> {}
 
 // Why a layer is not laid: the key is 64 bits wide. It comes back as it was.
-#[derive(Clone, Copy, Drop)]
+#[derive(Clone, Copy, Drop, Error)]
+#[error("the key is too wide for a parity bit")]
 pub struct TooWide<F> {
     pub below: F,
+}
+
+// Without the key, which is a secret.
+impl<F> fmt::Debug for TooWide<F> {
+    fn fmt<W: fmt::Write>(&self, f: &mut fmt::Formatter<W>) -> fmt::Result {
+        f.write_str("TooWide")
+    }
 }
 
 impl<F> TooWide<F> {

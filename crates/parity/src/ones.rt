@@ -19,7 +19,8 @@ pub(crate) fn text_parity(text: &[u8], m: usize) -> u32
     folded.count_ones() % 2
 }
 
-// A digest followed by the parity bit of its own ones and those of its text.
+// A digest followed by the parity bit of its own ones and those of its text. No call is shared with the bit that MAC-C appends: it
+// would be public, and public calls have no precondition.
 pub(crate) fn append_parity(digest: u64, parity: u32) -> u64
     requires { (digest < 2 ^ 63) × (parity < 2) }
     ensures { result ≡ digest * 2 + (count_ones digest + parity) % 2 }

@@ -3,8 +3,9 @@
 use ends::ChangeRefusal;
 use framing::{OpenRefusal, Opened, SealRefusal};
 
-// A call at either end. F is the family of the reader's keys, G that of the door's, P the pad source. The keys of the two ends are
-// of two types, so that each end has an appointment of its own, and its strike and withdrawal beside it.
+// A call at either end, as data, since a list of calls is kept and answered in place. F is the family of the reader's keys, G that
+// of the door's, P the pad source. The cases are those of the account's calls, one for one; two with the end's change inside would
+// be fewer here, and a level more at every caller.
 #[derive(Drop)]
 pub enum Call<F, G, P> {
     Seal {

@@ -40,7 +40,7 @@ fn answer<F: Family + Drop, G: Family + Drop, P: PadSource + Drop>(
 // Carries out the calls that the entries ask for, in order, and leaves each answer with its output buffer in the entry that
 // asked; other entries stay as they were. What is promised: whatever was created and called before, if the two ends stand
 // as the account of it says, then each answer and buffer is what the account works out, the ends then stand as it says, and
-// the promise holds of all calls so far.
+// the promise holds of all calls so far. The ends are two parameters: a caller holds them apart, as they stand apart.
 pub fn run<F: Family + Drop, G: Family + Drop, P: PadSource + Drop>(
     reader: &mut ReaderEnd<F>,
     door: &mut DoorEnd<G>,

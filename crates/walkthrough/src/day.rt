@@ -1,6 +1,5 @@
 //! A day at a door, told through the library's own calls: each goes through `run`, and its answer is printed.
 use crate::keys::cipher;
-use anyhow::Error;
 use bits::flip_bit;
 use crc::CrcKey;
 use ends::{DoorEnd, ReaderEnd};
@@ -31,7 +30,7 @@ fn key(coefficients: u64) -> anyhow::Result<Key> {
         state: 0,
         reach: 1016,
     })?;
-    Parity::over(below).map_err(|_| Error::msg("the key leaves no room for a parity bit"))
+    Ok(Parity::over(below)?)
 }
 
 // What a call was answered, in words.

@@ -3,7 +3,7 @@ use bits::read_bit;
 use family::Family;
 use std::fmt;
 
-// The first `count` bits of a run of bytes, as zeros and ones.
+// The first `count` bits of a run of bytes, as zeros and ones. The count is of bits, and not the length of the bytes beside it.
 #[derive(Clone, Copy)]
 pub(crate) struct BitRun<'a> {
     pub(crate) bytes: &'a [u8],

@@ -43,11 +43,6 @@ pub(crate) fn show(rt: &HostRuntime) -> anyhow::Result<()> {
     show_key(rt, &CrcKey::admit(CRC)?, &[0b1010_0000], 3)?;
     println!(rt; "")?;
     println!(rt; "The parity layer over the small MAC-C key")?;
-    match Parity::over(MacCKey::admit(SMALL)?) {
-        Ok(layered) => show_key(rt, &layered, &[0b1011_0000], 7),
-        Err(_) => {
-            println!(rt; "  refused: no room for a parity bit")?;
-            Ok(())
-        }
-    }
+    let layered = Parity::over(MacCKey::admit(SMALL)?)?;
+    show_key(rt, &layered, &[0b1011_0000], 7)
 }
