@@ -42,7 +42,8 @@ impl Generator {
         digest
     }
 
-    // The digest of the first m bits of a text.
+    // The digest of the first m bits of a text. A loop over the text's bytes is the form wanted of a digest, here and for registers;
+    // `left` is no index, but the number of bits of which the contract of a byte speaks.
     pub(crate) fn digest(&self, text: &[u8], m: usize) -> u64
         requires { m ≤ 8 * length text.now }
         ensures { result ≡ picked (bits text.now) (crc_columns self.now.raw.degree self.now.raw.coefficients m) }

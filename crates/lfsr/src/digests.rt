@@ -7,7 +7,7 @@ ghost use Rattle.std.specs.Prelude.{◌≡◌};
 use crate::register::Register;
 use bits::under_mask;
 
-// The ⊕ of those of the first m states at which the text has a one.
+// The ⊕ of those of the first m states at which the text has a one. A loop over the text's bytes is the form wanted of a digest.
 pub fn digest(register: &Register, text: &[u8], m: usize) -> u64
     ensures { result ≡ picked (bits text.now) (states register.now.raw m) }
 {
