@@ -51,12 +51,11 @@ pub fn open_frame<F: Family, P: PadSource>(
 {
     let arrived = Arrived::read(TagWidth::of(key), frame, out.len())?;
     let word = pads.word(slot)?;
-    let payload = &frame[..arrived.len];
-    let expected = Tag::of(key, door, slot, payload, word)?;
+    let expected = Tag::of(key, door, slot, arrived.payload, word)?;
     let mended = arrived.judge(key, allowance, expected)?;
-    write_payload(payload, mended, out);
+    write_payload(arrived.payload, mended, out);
     Ok(Opened {
-        len: arrived.len,
+        len: arrived.payload.len(),
         mended,
     })
 }

@@ -1,9 +1,9 @@
 //! Reading a frame that arrives: its parts, and what its syndrome leads to.
-ghost use Rattle.std.specs.Prelude.{◌≡◌, ◌≤◌, bit_xor};
+ghost use Rattle.std.specs.Prelude.{◌≡◌, ◌≤◌, bit_xor, length};
 ghost use Rattle.account.specs.Opening.{judge_questions, read_questions};
 ghost use Rattle.bits.specs.Columns.{picked, units};
 ghost use Rattle.frames.specs.Findings.{finding, told_place};
-ghost use Rattle.frames.specs.Frames.{payload_size, tag_bits, text_size};
+ghost use Rattle.frames.specs.Frames.{payload_of, tag_bits, text_size};
 ghost use Rattle.frames.specs.Limits.{longest_payload};
 ghost use Rattle.framing.specs.Asked.{Answers};
 ghost use Rattle.framing.specs.Refusals.{open_refusal};
@@ -13,19 +13,23 @@ use crate::tags::{BOUND_BITS, LONGEST_PAYLOAD, Tag, TagWidth};
 use bits::unit_place;
 use family::Family;
 
-// A frame taken apart: how many of its bytes are payload, and its tag.
+// A frame taken apart: its payload and its tag.
 #[derive(Clone, Copy)]
-pub(crate) struct Arrived {
-    pub len: usize,
+pub(crate) struct Arrived<'a> {
+    pub payload: &'a [u8],
     pub tag: Tag,
-    pub ghost short: { len ≤ longest_payload },
+    pub ghost short: { length payload.now ≤ longest_payload },
 }
 
-impl Arrived {
+impl<'a> Arrived<'a> {
     // Takes apart a frame whose tag has `width` bits, where there is room for so many bytes.
-    pub(crate) fn read(width: TagWidth, frame: &[u8], room: usize) -> Result<Arrived, OpenRefusal>
+    pub(crate) fn read(
+        width: TagWidth,
+        frame: &'a [u8],
+        room: usize,
+    ) -> Result<Arrived<'a>, OpenRefusal>
         ensures { Answers open_refusal (read_questions width.bits frame.now room) result
-            (λ a. (a.len ≡ payload_size width.bits frame.now) × (a.tag.number ≡ picked (tag_bits width.bits frame.now) (units width.bits)) × (a.len ≤ room))
+            (λ a. (a.payload.now ≡ payload_of width.bits frame.now) × (a.tag.number ≡ picked (tag_bits width.bits frame.now) (units width.bits)) × (length a.payload.now ≤ room))
             (Unit {0}) }
     {
         let size = width.bytes();
@@ -33,12 +37,12 @@ impl Arrived {
         if all <= size || all > size + LONGEST_PAYLOAD {
             return Err(OpenRefusal::FrameLength);
         }
-        let len = all - size;
-        let tag = Tag::read(width, &frame[len..]).ok_or(OpenRefusal::SpareBits)?;
-        if room < len {
+        let (payload, behind) = frame.split_at(all - size);
+        let tag = Tag::read(width, behind).ok_or(OpenRefusal::SpareBits)?;
+        if room < payload.len() {
             return Err(OpenRefusal::NoRoom);
         }
-        Ok(Arrived { len, tag })
+        Ok(Arrived { payload, tag })
     }
 
     // What its syndrome leads to, where this tag is expected: the place to mend, if any, or a refusal.
@@ -48,9 +52,9 @@ impl Arrived {
         allowance: u8,
         expected: Tag,
     ) -> Result<Option<usize>, OpenRefusal>
-        requires { text_size self.now.len ≤ (F.meaning key.now).reach }
-        ensures { Answers open_refusal (judge_questions allowance (finding (F.meaning key.now).width ((F.meaning key.now).columns (text_size self.now.len)) (bit_xor self.now.tag.number expected.number))) result
-            (λ o. o ≡ told_place (finding (F.meaning key.now).width ((F.meaning key.now).columns (text_size self.now.len)) (bit_xor self.now.tag.number expected.number)) self.now.len)
+        requires { text_size (length self.now.payload.now) ≤ (F.meaning key.now).reach }
+        ensures { Answers open_refusal (judge_questions allowance (finding (F.meaning key.now).width ((F.meaning key.now).columns (text_size (length self.now.payload.now))) (bit_xor self.now.tag.number expected.number))) result
+            (λ o. o ≡ told_place (finding (F.meaning key.now).width ((F.meaning key.now).columns (text_size (length self.now.payload.now))) (bit_xor self.now.tag.number expected.number)) (length self.now.payload.now))
             (Unit {0}) }
     {
         let syndrome = self.tag.number ^ expected.number;
@@ -60,11 +64,11 @@ impl Arrived {
         if allowance != 1 {
             return Err(OpenRefusal::Changed);
         }
-        match key.locate(syndrome, BOUND_BITS + 8 * self.len)? {
+        match key.locate(syndrome, BOUND_BITS + 8 * self.payload.len())? {
             Some(place) if place < BOUND_BITS => Err(OpenRefusal::BoundWord),
             Some(place) => Ok(Some(place - BOUND_BITS)),
             None => match unit_place(syndrome, key.width()) {
-                Some(place) => Ok(Some(8 * self.len + place as usize)),
+                Some(place) => Ok(Some(8 * self.payload.len() + place as usize)),
                 None => Err(OpenRefusal::Unknown),
             },
         }

@@ -34,7 +34,7 @@ impl SealRefusal {
             SealRefusal::PayloadLength => 12,
             SealRefusal::NoRoom => 13,
             SealRefusal::NoPad(_) => 14,
-            SealRefusal::OutOfReach => 8,
+            SealRefusal::OutOfReach => OutOfReach.number(),
         }
     }
 
@@ -62,10 +62,8 @@ impl From<PadFault> for SealRefusal {
 impl From<OutOfReach> for SealRefusal {
     ghost from_gives = { λ _ r. r ≡ seal_out_of_reach };
 
-    fn from(refusal: OutOfReach) -> SealRefusal {
-        match refusal {
-            OutOfReach => SealRefusal::OutOfReach,
-        }
+    fn from(_refusal: OutOfReach) -> SealRefusal {
+        SealRefusal::OutOfReach
     }
 }
 
@@ -102,7 +100,7 @@ impl OpenRefusal {
             OpenRefusal::SpareBits => 23,
             OpenRefusal::NoRoom => 24,
             OpenRefusal::NoPad(_) => 25,
-            OpenRefusal::OutOfReach => 8,
+            OpenRefusal::OutOfReach => OutOfReach.number(),
             OpenRefusal::Changed => 26,
             OpenRefusal::Unknown => 27,
             OpenRefusal::BoundWord => 28,
@@ -131,9 +129,7 @@ impl From<PadFault> for OpenRefusal {
 impl From<OutOfReach> for OpenRefusal {
     ghost from_gives = { λ _ r. r ≡ open_out_of_reach };
 
-    fn from(refusal: OutOfReach) -> OpenRefusal {
-        match refusal {
-            OutOfReach => OpenRefusal::OutOfReach,
-        }
+    fn from(_refusal: OutOfReach) -> OpenRefusal {
+        OpenRefusal::OutOfReach
     }
 }

@@ -4,7 +4,7 @@ use Rattle.account.specs.Questions.{first_refusal}
 use Rattle.account.specs.Calls.{word}
 use Rattle.framing.specs.Asked.{frame_questions}
 use Rattle.framing.specs.Refusals.{open_refusal}
-use Rattle.framing.proofs.OpenAnswers.{judged_so, told_so, len_is, payload_length, payload_written}
+use Rattle.framing.proofs.OpenAnswers.{judged_so, told_so, payload_is, payload_length, payload_written}
 use Rattle.framing.proofs.opening.open_frame.Goals as goal
 
 pub returns-in_err-mended : goal.returns-in_err-mended
@@ -23,16 +23,16 @@ returns g c =
     let w = g.P.PadSource.words c.args.pads.now in
     let frame = c.args.frame.now in
     let pad = word (w c.args.slot) in
-    let len = c.in_ok-arrived.arrived.len in
+    let payload = c.in_ok-arrived.arrived.payload.now in
     let place = told_so k c.args.door c.args.allowance c.args.slot frame (length c.args.out.now) w _ _ _ _ _ _
     c.of.ensures c.in_ok-arrived.ensures c.in_ok-word.ensures c.in_ok-expected.ensures _ c.in_ok-mended.ensures.1 in
-    let size = len_is k c.args.door c.args.allowance c.args.slot frame (length c.args.out.now) w _ _ _ _ _ _
+    let whole = payload_is k c.args.door c.args.allowance c.args.slot frame (length c.args.out.now) w _ _ _ _ _ _
     c.of.ensures c.in_ok-arrived.ensures c.in_ok-word.ensures c.in_ok-expected.ensures in (
       judged_so k c.args.door c.args.allowance c.args.slot frame (length c.args.out.now) w _ _ _ _ _ _
           c.of.ensures c.in_ok-arrived.ensures c.in_ok-word.ensures c.in_ok-expected.ensures None c.in_ok-mended.ensures.0,
       (
-        payload_length k pad c.args.door c.args.slot frame len size,
+        payload_length k pad c.args.door c.args.slot frame payload whole,
         place,
-        payload_written k pad c.args.door c.args.slot frame len size c.args.out.now _ c.in_ok-mended.mended place c.write_payload.ensures,
+        payload_written k pad c.args.door c.args.slot frame payload whole c.args.out.now _ c.in_ok-mended.mended place c.write_payload.ensures,
       ),
     )
