@@ -19,7 +19,8 @@ pub struct Opened {
     pub mended: Option<usize>,
 }
 
-// Writes a payload, with the bit at `mended` turned over where it is one of the payload's.
+// Writes a payload, with the bit at `mended` turned over where it is one of the payload's. (Here, where a frame, a tag and a report
+// are written, one `copy_from_slice` at the front of a buffer is plainer than a call that they would share.)
 fn write_payload(payload: &[u8], mended: Option<usize>, out: &mut [u8])
     requires { length payload.now ≤ length out.old }
     ensures { out.new ≡ put_in_front (turned_over payload.now mended) out.old }
@@ -33,6 +34,7 @@ fn write_payload(payload: &[u8], mended: Option<usize>, out: &mut [u8])
 
 // Opens a frame for a slot at a door: writes its payload, mended where that is allowed, at the front of `out`. Whether the slot
 // was opened before is the end's to ask.
+// Key, door and slot stay parameters, as where a frame is sealed; the allowance is a number, as an end holds it.
 #[tactic(auto, unfolding(crate::specs::Asked::frame_questions))]
 pub fn open_frame<F: Family, P: PadSource>(
     key: &F,

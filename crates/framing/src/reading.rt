@@ -45,7 +45,8 @@ impl<'a> Arrived<'a> {
         Ok(Arrived { payload, tag })
     }
 
-    // What its syndrome leads to, where this tag is expected: the place to mend, if any, or a refusal.
+    // What its syndrome leads to, where this tag is expected: the place to mend, if any, or a refusal. (The allowance is a number, as
+    // an end holds it.)
     pub(crate) fn judge<F: Family>(
         &self,
         key: &F,
