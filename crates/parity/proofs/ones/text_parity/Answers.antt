@@ -5,12 +5,9 @@ use lib.Count.{ones}
 use Rattle.std.proofs.lemmas.List.{take_more, take_all}
 use Rattle.bits.specs.Bits.{bits, bits_of, weight}
 use Rattle.bits.proofs.OnesOfBits.{front_byte, front_weight, weight-push}
-use Rattle.bits.proofs.Xors.{ones_xor, ones_zero}
+use Rattle.bits.proofs.Xors.{ones_xor}
 use Rattle.parity.proofs.ones.text_parity.Goals as goal
 use Rattle.parity.proofs.ones.text_parity.Goals.{then-m-gt0, else-m-gt0}
-
-pub loop-byte-init : goal.loop-byte-init
-loop-byte-init c = ap (λ x. x % 2) ones_zero
 
 pub loop-byte-preserved : goal.loop-byte-preserved
 loop-byte-preserved c =

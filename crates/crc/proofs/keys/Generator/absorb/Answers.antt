@@ -7,12 +7,6 @@ use Rattle.crc.specs.Horner.{completed}
 use Rattle.crc.proofs.Digests.{place-completed, byte_completed}
 use Rattle.crc.proofs.keys.Generator.absorb.Goals as goal
 
-pub loop-place-init : goal.loop-place-init
-loop-place-init c rest =
-    let raw = c.args.self.now.raw in
-    let all : c.args.left - 0 ≡ c.args.left = omega arith in
-    ap (λ x. completed raw.degree raw.coefficients c.args.digest x (bits_of 8 c.args.byte ++ rest)) all
-
 pub loop-place-preserved : goal.loop-place-preserved
 loop-place-preserved c rest =
     let raw = c.args.self.now.raw in
