@@ -23,7 +23,7 @@ pub type DoorEnd<F> = End<F, Door>;
 
 impl<F: Family + Drop> End<F, Door> {
     // A door's end with its first key; with an allowance of 1 it mends one changed bit of a frame, with 0 none. A key that is
-    // refused is dropped.
+    // refused is dropped. The allowance is a number: every byte is answered or refused, and an enum would ask more of callers.
     pub fn new(key: F, door: u32, allowance: u8) -> Result<DoorEnd<F>, DoorRefusal>
         ensures { Answers door_refusal (door_questions (F.meaning key) allowance) result (λ e. door_state F.meaning e ≡ new_end (F.meaning key) door allowance) (Unit {0}) }
     {

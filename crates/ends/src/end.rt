@@ -18,8 +18,7 @@ pub struct End<F: Family, R> {
     pub(crate) pending: Option<PendingKey<F>>,
     pub(crate) door: u32,
     pub(crate) last: u32,
-    // How many changed bits of a frame are mended: 0 at a reader's end. A number, since a creation takes one and `open_frame` asks
-    // for one: an enum would be made of the one and turned into the other.
+    // How many changed bits of a frame are mended: 0 at a reader's end. A number, as the creation of a door's end takes it.
     pub(crate) allowance: u8,
     pub(crate) role: PhantomData<R>,
 }

@@ -4,7 +4,8 @@ ghost use Rattle.family.specs.Questions.{Asked};
 
 use crate::refusals::OutOfReach;
 
-// Is m from 1 to the reach? (Here and below `as usize`: std has no `From` between the two types.)
+// Is m from 1 to the reach? (`as usize`, here and in the crates above: std has no
+// `From` between the two types.)
 pub fn check_length(reach: u32, m: usize) -> Result<(), OutOfReach>
     ensures { Asked (length_questions reach m) reach_number (λ _. Unit {0}) result }
 {

@@ -19,7 +19,8 @@ type Frame = ArrayVec<u8, 127>;
 
 type Payload = ArrayVec<u8, LONGEST_PAYLOAD>;
 
-// The key as both ends have it, made here once more than in the other programs, so that this one can be read alone. A key of the top level: the parity layer over any family has distance 4.
+// The key as both ends have it; the trials and the walkthrough make theirs, so that this program can be read alone. A key of the top
+// level: the parity layer over any family has distance 4.
 fn shared_key() -> anyhow::Result<Parity<CrcKey>> {
     let below = CrcKey::admit(RawKey {
         degree: 63,

@@ -13,6 +13,7 @@ use family::Family;
 use pads::PadSource;
 
 // What was opened: how many bytes the payload has, and the place in payload and tag whose bit was changed on the way, if one was.
+// The buffer is the caller's, so that its front's length is told and not a slice.
 #[derive(Clone, Copy, Debug, PartialEq, Eq)]
 pub struct Opened {
     pub len: usize,
@@ -34,7 +35,8 @@ fn write_payload(payload: &[u8], mended: Option<usize>, out: &mut [u8])
 
 // Opens a frame for a slot at a door: writes its payload, mended where that is allowed, at the front of `out`. Whether the slot
 // was opened before is the end's to ask.
-// Key, door and slot stay parameters, as where a frame is sealed; the allowance is a number, as an end holds it.
+// Key, door and slot stay parameters, as where a frame is sealed; the allowance is a number, since an enum would ask
+// more of callers.
 #[tactic(auto, unfolding(crate::specs::Asked::frame_questions))]
 pub fn open_frame<F: Family, P: PadSource>(
     key: &F,

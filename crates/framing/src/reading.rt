@@ -45,8 +45,8 @@ impl<'a> Arrived<'a> {
         Ok(Arrived { payload, tag })
     }
 
-    // What its syndrome leads to, where this tag is expected: the place to mend, if any, or a refusal. (The allowance is a number, as
-    // an end holds it.)
+    // What its syndrome leads to, where this tag is expected: the place to mend, if any, or a refusal. (The allowance is as
+    // `open_frame` is handed it. A match, arm by arm as the questions are asked.)
     pub(crate) fn judge<F: Family>(
         &self,
         key: &F,

@@ -49,8 +49,8 @@ impl SealRefusal {
     }
 }
 
-// Each refusal keeps its own `number` and `fault`: a trait would leave both tables, and ask every caller for an import. Both `From`
-// are by hand, not `#[from]`, since the clauses read which refusal comes of a fault.
+// Each refusal keeps its own `number` and `fault`: a trait would leave both tables, and ask every caller for an import. All four
+// `From` are by hand, not `#[from]`, since the clauses read which refusal comes of a fault.
 impl From<PadFault> for SealRefusal {
     ghost from_gives = { λ e r. r ≡ seal_no_pad e };
 

@@ -58,10 +58,8 @@ pub fn find<F: Family>(key: &F, syndrome: u64, m: usize) -> Result<Finding, OutO
     if let Some(place) = column {
         return Ok(Finding::Text(place));
     }
-    match unit_place(syndrome, key.width()) {
-        Some(place) => Ok(Finding::Tag(place)),
-        None => Ok(Finding::Unknown),
-    }
+    let unit = unit_place(syndrome, key.width());
+    Ok(unit.map_or(Finding::Unknown, |place| Finding::Tag(place)))
 }
 
 // Turns the bit over that was found changed in the text.

@@ -22,6 +22,7 @@ impl<'a> PadBook<'a> {
 impl PadSource for PadBook<'_> {
     ghost words = { λ b slot. book_words b.words.now slot };
 
+    // `as`, since std has no `From` from u32 to usize.
     fn word(&self, slot: u32) -> Result<u64, PadFault> {
         slot.checked_sub(1)
             .and_then(|place| self.words.get(place as usize))

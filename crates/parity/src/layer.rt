@@ -21,7 +21,8 @@ pub struct Parity<F: Family> {
     ghost room: { (F.meaning below).width ≤ widest_below },
 }
 
-// Written out: a derive was tried, and takes no generic type whose ghost fields hold a fact.
+// Written out: a derive was tried, and takes no generic type whose ghost fields hold a fact. For a key below that is `Copy`, since
+// nothing says that a clone keeps its width.
 impl<F: Family + Copy> Clone for Parity<F> {
     fn clone(&self) -> Result<Self, AllocError> {
         Ok(*self)

@@ -11,6 +11,7 @@ mod tests {
 
     const WORDS: [u64; 2] = [2, 0];
 
+    // Made here as in the programs, so that each can be read alone.
     fn key() -> Result<CrcKey, Fail> {
         Ok(CrcKey::admit(RawKey {
             degree: 63,

@@ -22,7 +22,7 @@ const BOOK: [u64; 4] = [
     0x3f56_bf75_9656_b750,
 ];
 
-// x^63 plus the terms of the coefficients.
+// x^63 plus the terms of the coefficients. A key is made here as in the other programs, so that each can be read alone.
 fn key(coefficients: u64) -> anyhow::Result<Key> {
     let below = CrcKey::admit(RawKey {
         degree: 63,
