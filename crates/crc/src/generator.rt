@@ -58,6 +58,7 @@ impl Generator {
     }
 }
 
+// `times_x` has its own name, since a digest multiplies by x too, and steps along nothing.
 impl Step for Generator {
     ghost stepped = { λ g. times_x g.raw.degree g.raw.coefficients };
 

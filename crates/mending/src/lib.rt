@@ -1,4 +1,5 @@
-//! One changed bit found by its syndrome, and put right.
+//! One changed bit found by its syndrome, and put right. A search beside that of `framing`: it takes any text and small keys, which
+//! no frame has.
 #![tactic(auto)]
 
 ghost use Rattle.bits.specs.Columns.{place};
