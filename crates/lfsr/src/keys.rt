@@ -1,6 +1,6 @@
 //! The admitted keys of both families: admission, and what a key answers. What admission found stands in their type, so that
 //! every value keeps the law.
-ghost use Rattle.std.specs.Prelude.{◌≡◌, ◌++◌};
+ghost use Rattle.std.specs.Prelude.{◌≡◌, ◌++◌, ⊤};
 ghost use Rattle.bits.specs.Columns.{units};
 ghost use Rattle.family.specs.Admission.{admission_number, admission_questions};
 ghost use Rattle.family.specs.Meaning.{AllDifferent, NoneZero};
@@ -24,8 +24,12 @@ pub struct RegisterKey<C: Column> {
     ghost different: { AllDifferent ((C.meant register.raw).columns register.raw.reach ++ units (C.meant register.raw).width) },
 }
 
-// Written out: a derive was tried, and takes no generic type whose ghost fields hold a fact.
+// Written out: a derive was tried, and takes no generic type whose ghost fields hold a fact. A clone is the key, and never fails.
 impl<C: Column> Clone for RegisterKey<C> {
+    ghost is_clone = { λ key copy. copy ≡ key };
+
+    ghost is_infallible = { λ _. ⊤ };
+
     fn clone(&self) -> Result<Self, AllocError> {
         Ok(*self)
     }

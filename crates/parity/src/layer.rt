@@ -1,35 +1,24 @@
 //! The parity layer over any family, itself a family.
 ghost use Rattle.family.specs.Questions.{Asked};
-ghost use Rattle.parity.specs.Layered.{layer_questions, layered, widest_below};
+ghost use Rattle.parity.specs.Layered.{layer_questions, layered};
 ghost use Rattle.parity.specs.Refusals.{too_wide_number};
-ghost use Rattle.std.specs.Prelude.{◌≡◌, ◌≤◌, IfErr};
+ghost use Rattle.std.specs.Prelude.{◌≡◌, IfErr};
 ghost use Rattle.parity.specs.Layers.{layered-lawful};
 
 use crate::ones::{append_parity, text_parity};
 use family::{Family, OutOfReach};
-use std::alloc::AllocError;
 use std::fmt;
 use thiserror::Error;
 
 // The widest key that leaves room for the parity bit.
 const WIDEST_BELOW: u32 = 63;
 
-// A key with a parity bit after each column, for which the key below leaves room.
-#[derive(Drop)]
-pub struct Parity<F: Family> {
+// A key with a parity bit after each column. That the key below leaves room for it stands in no ghost field: a clone would have to keep
+// its width, of which no bound on F says anything, and the type could be named for families alone.
+#[derive(Clone, Copy, Drop)]
+pub struct Parity<F> {
     below: F,
-    ghost room: { (F.meaning below).width ≤ widest_below },
 }
-
-// Written out: a derive was tried, and takes no generic type whose ghost fields hold a fact. For a key below that is `Copy`, since
-// nothing says that a clone keeps its width.
-impl<F: Family + Copy> Clone for Parity<F> {
-    fn clone(&self) -> Result<Self, AllocError> {
-        Ok(*self)
-    }
-}
-
-impl<F: Family + Copy> Copy for Parity<F> {}
 
 // Why a layer is not laid: the key is 64 bits wide. It comes back as it was.
 #[derive(Clone, Copy, Drop, Error)]
@@ -66,13 +55,20 @@ impl<F: Family> Parity<F> {
     }
 }
 
+// A layer that was laid leaves room for its bit. Its type does not say so, and so each method also answers
+// for a key below that leaves none, as if there were no layer.
 impl<F: Family> Family for Parity<F> {
     ghost meaning = { λ p. layered (F.Family.meaning p.below) };
 
     ghost lawful = { λ k. layered-lawful (F.Family.meaning k.below) (F.Family.lawful k.below) };
 
     fn width(&self) -> u32 {
-        self.below.width() + 1
+        let width = self.below.width();
+        if width > WIDEST_BELOW {
+            width
+        } else {
+            width + 1
+        }
     }
 
     fn reach(&self) -> u32 {
@@ -80,15 +76,25 @@ impl<F: Family> Family for Parity<F> {
     }
 
     fn distance(&self) -> u32 {
-        4
+        if self.below.width() > WIDEST_BELOW {
+            self.below.distance()
+        } else {
+            4
+        }
     }
 
     fn digest(&self, text: &[u8], m: usize) -> Result<u64, OutOfReach> {
         let digest = self.below.digest(text, m)?;
+        if self.below.width() > WIDEST_BELOW {
+            return Ok(digest);
+        }
         Ok(append_parity(digest, text_parity(text, m)))
     }
 
     fn locate(&self, number: u64, m: usize) -> Result<Option<usize>, OutOfReach> {
+        if self.below.width() > WIDEST_BELOW {
+            return self.below.locate(number, m);
+        }
         let place = self.below.locate(number >> 1, m)?;
         if number.count_ones() % 2 == 1 {
             Ok(place)

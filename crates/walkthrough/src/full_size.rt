@@ -2,7 +2,7 @@
 use crate::keys::cipher;
 use crate::printing::Numbers;
 use crate::sent;
-use crate::sent::{Bit, Outcome};
+use crate::sent::Bit;
 use family::{Family, RawKey};
 use lfsr::MacCKey;
 use mending::Arrival;
@@ -24,9 +24,9 @@ const SLOT: u32 = 9021;
 
 type Sent<'a> = sent::Sent<'a, MacCKey>;
 
-fn send<'a>(rt: &HostRuntime, key: &'a MacCKey) -> anyhow::Result<Sent<'a>> {
+fn send<'a>(rt: &impl Print, key: &'a MacCKey) -> anyhow::Result<Sent<'a>> {
     let pad = first_bits(cipher().word(SLOT)?, key.width());
-    let sent = Sent::new(rt.alloc(), key, &TEXT, M, pad)?;
+    let sent = Sent::new(key, &TEXT, M, pad)?;
     let digest = sent.digest;
     let tag = sent.tag();
     println!(rt; "  text of 127 bytes: digest {digest:016x}")?;
@@ -43,22 +43,20 @@ fn change_some(rt: &impl Print, sent: &Sent) -> anyhow::Result<()> {
 }
 
 fn change_each(rt: &impl Print, sent: &Sent) -> anyhow::Result<()> {
-    let of_text = sent.outcomes(sent.text_bits()?, 1)?;
-    let of_tag = sent.outcomes(sent.tag_bits()?, 1)?;
+    let of_text = sent.singles(sent.text_bits())?;
+    let of_tag = sent.singles(sent.tag_bits())?;
     println!(rt;
         "  each of {} text bits changed in turn: {} put right",
-        of_text.len(),
-        sent::count(of_text.as_slice(), Outcome::Right)
+        of_text.changes, of_text.right
     )?;
     println!(rt;
         "  each of {} tag bits changed in turn: {} times the text is left as it was sent",
-        of_tag.len(),
-        sent::count(of_tag.as_slice(), Outcome::Right)
+        of_tag.changes, of_tag.right
     )?;
     Ok(())
 }
 
-pub(crate) fn show(rt: &HostRuntime) -> anyhow::Result<()> {
+pub(crate) fn show(rt: &impl Print) -> anyhow::Result<()> {
     let key = MacCKey::admit(RAW)?;
     println!(rt; "")?;
     println!(rt; "A full-size MAC-C key: degree 63, coefficients 3 (x^63 + x + 1), reach 1016")?;

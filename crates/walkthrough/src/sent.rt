@@ -1,11 +1,11 @@
 //! A text as it was sent under a key, and what comes of it when bits are changed on the way.
 use crate::printing::BitRun;
+use arrayvec::ArrayVec;
 use bits::flip_bit;
 use family::Family;
-use itertools::Itertools;
 use mending::{Arrival, Finding, receive};
-use std::alloc::{AllocError, Global};
 use std::fmt;
+use std::ops::Range;
 
 // A bit of what is sent: one of the text, or one of the tag behind it.
 #[derive(Clone, Copy)]
@@ -31,18 +31,31 @@ pub(crate) enum Outcome {
     Refused,
 }
 
-// How many of these came out so.
-pub(crate) fn count(outcomes: &[Outcome], wanted: Outcome) -> usize {
-    outcomes
-        .iter()
-        .filter(|outcome| **outcome == wanted)
-        .count()
+// How many changes were tried, and how many of them came out so.
+#[derive(Clone, Copy, Default)]
+pub(crate) struct Tally {
+    pub(crate) changes: usize,
+    pub(crate) right: usize,
+    pub(crate) refused: usize,
 }
+
+impl Tally {
+    pub(crate) fn count(&mut self, outcome: Outcome) {
+        self.changes = self.changes.saturating_add(1);
+        match outcome {
+            Outcome::Right => self.right = self.right.saturating_add(1),
+            Outcome::Wrong => (),
+            Outcome::Refused => self.refused = self.refused.saturating_add(1),
+        }
+    }
+}
+
+// Room for the longest text: nothing here needs a heap.
+pub(crate) type Text = ArrayVec<u8, 127>;
 
 // A text of m bits that was sent: its digest under the key, and the pad of its tag.
 #[derive(Drop)]
 pub(crate) struct Sent<'a, F> {
-    heap: Global,
     key: &'a F,
     text: &'a [u8],
     m: usize,
@@ -53,15 +66,14 @@ pub(crate) struct Sent<'a, F> {
 // What arrived, what it was found to be, and the text as the receiver leaves it.
 #[derive(Drop)]
 pub(crate) struct Received {
-    pub(crate) came: Vec<u8>,
+    pub(crate) came: Text,
     pub(crate) tag: u64,
     pub(crate) arrival: Arrival,
-    pub(crate) text: Vec<u8>,
+    pub(crate) text: Text,
 }
 
 impl<'a, F: Family> Sent<'a, F> {
     pub(crate) fn new(
-        heap: Global,
         key: &'a F,
         text: &'a [u8],
         m: usize,
@@ -69,7 +81,6 @@ impl<'a, F: Family> Sent<'a, F> {
     ) -> anyhow::Result<Sent<'a, F>> {
         let digest = key.digest(text, m)?;
         Ok(Sent {
-            heap,
             key,
             text,
             m,
@@ -92,9 +103,9 @@ impl<'a, F: Family> Sent<'a, F> {
 
     // The column of a place is the digest of the text that has its only one there.
     fn column(&self, place: usize) -> anyhow::Result<u64> {
-        let mut single = vec![in self.heap; 0; self.text.len()]?;
-        flip_bit(single.as_mut_slice(), place);
-        Ok(self.key.digest(single.as_slice(), self.m)?)
+        let mut single = [0u8; 127];
+        flip_bit(&mut single, place);
+        Ok(self.key.digest(&single, self.m)?)
     }
 
     pub(crate) fn show_columns(&self, rt: &impl Print) -> anyhow::Result<()> {
@@ -117,7 +128,8 @@ impl<'a, F: Family> Sent<'a, F> {
 
     // The text and the tag arrive, with these bits changed on the way.
     pub(crate) fn receive(&self, changed: &[Bit]) -> anyhow::Result<Received> {
-        let mut came = self.text.to_vec(self.heap)?;
+        let mut came = Text::new();
+        came.try_extend_from_slice(self.text)?;
         let mut tag = self.tag();
         for bit in changed {
             match bit {
@@ -143,27 +155,46 @@ impl<'a, F: Family> Sent<'a, F> {
         }
     }
 
-    pub(crate) fn text_bits(&self) -> Result<Vec<Bit>, AllocError> {
-        (0..self.m).map(Bit::Text).collect(self.heap)
+    // All bits are counted in turn: those of the text, and then those of the tag.
+    pub(crate) fn text_bits(&self) -> Range<usize> {
+        0..self.m
     }
 
-    pub(crate) fn tag_bits(&self) -> Result<Vec<Bit>, AllocError> {
-        (0..self.key.width()).map(Bit::Tag).collect(self.heap)
+    pub(crate) fn tag_bits(&self) -> Range<usize> {
+        self.m..self.bits().end
     }
 
-    // All bits: those of the text, and then those of the tag.
-    pub(crate) fn bits(&self) -> Result<Vec<Bit>, AllocError> {
-        let tag = (0..self.key.width()).map(Bit::Tag);
-        (0..self.m).map(Bit::Text).chain(tag).collect(self.heap)
+    pub(crate) fn bits(&self) -> Range<usize> {
+        0..self.m.saturating_add(self.key.width() as usize)
     }
 
-    // Changes so many of these bits at a time, in each way that there is.
-    pub(crate) fn outcomes(&self, bits: Vec<Bit>, changes: usize) -> anyhow::Result<Vec<Outcome>> {
-        let mut outcomes = Vec::new(self.heap);
-        for changed in bits.into_iter().combinations(self.heap, changes)? {
-            let received = self.receive(changed?.as_slice())?;
-            outcomes.push(self.outcome(&received))?;
+    // The bit that is counted so.
+    pub(crate) fn bit(&self, index: usize) -> Bit {
+        match index.checked_sub(self.m) {
+            None => Bit::Text(index),
+            Some(place) => Bit::Tag(u32::try_from(place).unwrap_or(u32::MAX)),
         }
-        Ok(outcomes)
+    }
+
+    // Changes each of these bits alone.
+    pub(crate) fn singles(&self, bits: Range<usize>) -> anyhow::Result<Tally> {
+        let mut tally = Tally::default();
+        for index in bits {
+            let received = self.receive(&[self.bit(index)])?;
+            tally.count(self.outcome(&received));
+        }
+        Ok(tally)
+    }
+
+    // Changes two bits at a time, in each way that there is.
+    pub(crate) fn pairs(&self) -> anyhow::Result<Tally> {
+        let mut tally = Tally::default();
+        for second in self.bits() {
+            for first in 0..second {
+                let received = self.receive(&[self.bit(first), self.bit(second)])?;
+                tally.count(self.outcome(&received));
+            }
+        }
+        Ok(tally)
     }
 }

@@ -2,7 +2,7 @@
 use crate::keys::SMALL;
 use crate::printing::Numbers;
 use crate::sent;
-use crate::sent::{Bit, Outcome};
+use crate::sent::{Bit, Outcome, Tally};
 use family::Family;
 use lfsr::MacCKey;
 use mending::Arrival;
@@ -19,10 +19,10 @@ const BOOK: [u64; 1] = [0x5000_0000_0000_0000];
 type Sent<'a> = sent::Sent<'a, MacCKey>;
 
 // The text under the pad of slot 1.
-fn send<'a>(rt: &HostRuntime, key: &'a MacCKey) -> anyhow::Result<Sent<'a>> {
+fn send<'a>(rt: &impl Print, key: &'a MacCKey) -> anyhow::Result<Sent<'a>> {
     let book = PadBook::new(&BOOK);
     let pad = first_bits(book.word(1)?, key.width());
-    let sent = Sent::new(rt.alloc(), key, &TEXT, M, pad)?;
+    let sent = Sent::new(key, &TEXT, M, pad)?;
     sent.show_columns(rt)?;
     let text = sent.shown(&TEXT);
     let digest = sent.digest;
@@ -43,36 +43,33 @@ fn change(rt: &impl Print, sent: &Sent, bit: Bit) -> anyhow::Result<Outcome> {
     let received = sent.receive(&[bit])?;
     let Arrival { syndrome, finding } = received.arrival;
     let text = sent.shown(received.text.as_slice());
-    print!(rt; "  {bit} changed: ")?;
     match bit {
         Bit::Text(_) => {
             let came = sent.shown(received.came.as_slice());
             println!(rt;
-                "{came} arrives, syndrome {syndrome}, found at {finding}, put right: {text}"
+                "  {bit} changed: {came} arrives, syndrome {syndrome}, found at {finding}, put right: {text}"
             )?;
         }
         Bit::Tag(_) => {
             let came = received.tag;
             println!(rt;
-                "tag {came} arrives, syndrome {syndrome}, found at {finding}, text as it was: {text}"
+                "  {bit} changed: tag {came} arrives, syndrome {syndrome}, found at {finding}, text as it was: {text}"
             )?;
         }
     }
     Ok(sent.outcome(&received))
 }
 
-fn change_each(rt: &HostRuntime, sent: &Sent) -> anyhow::Result<()> {
+fn change_each(rt: &impl Print, sent: &Sent) -> anyhow::Result<()> {
     println!(rt; "")?;
     println!(rt; "Each single bit of text and tag, changed in turn:")?;
-    let outcomes: Vec<Outcome> = sent
-        .bits()?
-        .into_iter()
-        .map(|bit| change(rt, sent, bit))
-        .try_collect(rt.alloc())?;
+    let mut tally = Tally::default();
+    for index in sent.bits() {
+        tally.count(change(rt, sent, sent.bit(index))?);
+    }
     println!(rt;
         "  {} of {} changes end with the text that was sent",
-        sent::count(outcomes.as_slice(), Outcome::Right),
-        outcomes.len()
+        tally.right, tally.changes
     )?;
     Ok(())
 }
@@ -94,7 +91,7 @@ fn change_two(rt: &impl Print, sent: &Sent) -> anyhow::Result<()> {
     Ok(())
 }
 
-pub(crate) fn show(rt: &HostRuntime) -> anyhow::Result<()> {
+pub(crate) fn show(rt: &impl Print) -> anyhow::Result<()> {
     let key = MacCKey::admit(SMALL)?;
     println!(rt; "A small MAC-C key: degree 3, coefficients 3 (x^3 + x + 1), state 4, reach 7")?;
     println!(rt; "  admitted: {}", Numbers(&key))?;

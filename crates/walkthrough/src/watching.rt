@@ -1,8 +1,7 @@
 //! Keys of distance 4: one changed bit is put right, and two are refused.
 use crate::keys::SMALL;
 use crate::printing::Numbers;
-use crate::sent;
-use crate::sent::{Outcome, Sent};
+use crate::sent::Sent;
 use crc::CrcKey;
 use family::{Family, RawKey};
 use lfsr::MacCKey;
@@ -16,26 +15,24 @@ const CRC: RawKey = RawKey {
 };
 
 // A text of m bits, sent with no pad: a pad changes no syndrome.
-fn show_key<F: Family>(rt: &HostRuntime, key: &F, text: &[u8], m: usize) -> anyhow::Result<()> {
+fn show_key<F: Family>(rt: &impl Print, key: &F, text: &[u8], m: usize) -> anyhow::Result<()> {
     println!(rt; "  {}", Numbers(key))?;
-    let sent = Sent::new(rt.alloc(), key, text, m, 0)?;
+    let sent = Sent::new(key, text, m, 0)?;
     sent.show_columns(rt)?;
-    let singles = sent.outcomes(sent.bits()?, 1)?;
+    let singles = sent.singles(sent.bits())?;
     println!(rt;
         "  one bit changed, each of {} in turn: {} put right",
-        singles.len(),
-        sent::count(singles.as_slice(), Outcome::Right)
+        singles.changes, singles.right
     )?;
-    let pairs = sent.outcomes(sent.bits()?, 2)?;
+    let pairs = sent.pairs()?;
     println!(rt;
         "  two bits changed, each of {} pairs in turn: {} refused",
-        pairs.len(),
-        sent::count(pairs.as_slice(), Outcome::Refused)
+        pairs.changes, pairs.refused
     )?;
     Ok(())
 }
 
-pub(crate) fn show(rt: &HostRuntime) -> anyhow::Result<()> {
+pub(crate) fn show(rt: &impl Print) -> anyhow::Result<()> {
     println!(rt; "")?;
     println!(rt;
         "A CRC key with an even number of terms: degree 4, coefficients 13 (x^4 + x^3 + x^2 + 1), reach 3"
