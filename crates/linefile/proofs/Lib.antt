@@ -3,5 +3,6 @@ pub mod OneField
 mod Bytes
 mod Stages
 mod OneFrame
+pub mod FramesInBytes
 mod Keys
 mod WholeFile

@@ -1,8 +1,8 @@
 -- The stages of the reading, over plain values.
-use Rattle.std.proofs.Common.{◌≡◌, ℕ, suc, ◌+◌, ◌-◌, ◌<◌, ◌≤◌, List, [], ◌∷◌, ◌++◌, drop, Ok, Err, Result, MatchResult, sym, ap, ◌∙◌, subst, append_assoc, arith}
+use Rattle.std.proofs.Common.{◌≡◌, ℕ, suc, ◌+◌, ◌-◌, ◌<◌, ◌≤◌, List, [], ◌∷◌, ◌++◌, length, map, take, drop, set, Ok, Err, Result, MatchResult, sym, refl, ap, ◌∙◌, subst, append_assoc, arith, length-append, length-set}
 use Rattle.std.specs.Int.Digits.{number_from_digits}
 use Rattle.std.specs.Result.{IsErrAnd}
-use Rattle.std.proofs.lemmas.List.{append-nil}
+use Rattle.std.proofs.lemmas.List.{append-nil, map-append, take-append-le, take_all, take_more_set}
 use Rattle.std.proofs.lemmas.Bool.{cond-true, cond-false, le-leb, lt-leb, eq-eqb, ne_eqb}
 use Rattle.linefile.specs.declared.faults.FileFault.{FileFault}
 use Rattle.linefile.specs.declared.faults.Flaw.{Flaw}
@@ -116,4 +116,52 @@ so_all {each = each} {count = count} {i = i} {items = items} {place = place} {re
           s.goes next
           ∙ ap (λ k. repeated each k (λ ys. next (items ++ ys)) place rest) n
           ∙ ap (λ is. next is place rest) (append-nil items);
+    }
+
+-- ---- items that are read one behind the other, of which the first are kept, as many as there is room for
+
+pub record Filled {Y T : Type 0} (each : Part Y Contents) (sense : T → Y) (count at : ℕ) (bs : List ℕ) (room i place : ℕ) (rest : List ℕ) (kept : List T) : Type 0 where
+  pub items : List T
+  pub many : length items ≡ i
+  pub so_far : SoFar each count at bs i (map sense items) place rest
+  pub held : take i kept ≡ take room items
+  pub size : length kept ≡ room
+
+pub filled_none : {Y T : Type 0} (each : Part Y Contents) (sense : T → Y) (count at : ℕ) (bs : List ℕ) (kept : List T) → Filled each sense count at bs (length kept) 0 at bs kept
+filled_none each sense count at bs kept =
+    let z : count ≡ count - 0 = omega arith in
+    record { items = []; many = refl; so_far = record { goes = λ next. ap (λ n. repeated each n next at bs) z }; held = sym (take_all (length kept) [] (omega arith)); size = refl }
+
+-- one more, which is kept
+pub filled_kept : {Y T : Type 0} {each : Part Y Contents} {sense : T → Y} {count at : ℕ} {bs : List ℕ} {room i place : ℕ} {rest : List ℕ} {kept : List T} {x : T} {place' : ℕ} {rest' : List ℕ} → Filled each sense count at bs room i place rest kept → i < count → Past each place rest (sense x) place' rest' → i < room → Filled each sense count at bs room (i + 1) place' rest' (set kept i x)
+filled_kept {sense = sense} {room = room} {i = i} {kept = kept} {x = x} f h p k =
+    let many = f.many in
+    let size = f.size in
+    let more : length (f.items ++ (x ∷ [])) ≡ i + 1 = length-append f.items (x ∷ []) ∙ (omega arith) in
+    record {
+      items = f.items ++ (x ∷ []);
+      many = more;
+      so_far = so_more f.so_far h p (map-append sense f.items (x ∷ []));
+      held =
+          take_more_set kept i x (omega arith)
+          ∙ ap (λ l. l ++ (x ∷ [])) (f.held ∙ take_all room f.items (omega arith))
+          ∙ sym (take_all room (f.items ++ (x ∷ [])) (omega arith));
+      size = length-set kept i x ∙ size;
+    }
+
+-- one more, for which there is no room
+pub filled_full : {Y T : Type 0} {each : Part Y Contents} {sense : T → Y} {count at : ℕ} {bs : List ℕ} {room i place : ℕ} {rest : List ℕ} {kept : List T} (x : T) {place' : ℕ} {rest' : List ℕ} → Filled each sense count at bs room i place rest kept → i < count → Past each place rest (sense x) place' rest' → room ≤ i → Filled each sense count at bs room (i + 1) place' rest' kept
+filled_full {sense = sense} {room = room} {i = i} {kept = kept} x f h p k =
+    let many = f.many in
+    let size = f.size in
+    record {
+      items = f.items ++ (x ∷ []);
+      many = length-append f.items (x ∷ []) ∙ (omega arith);
+      so_far = so_more f.so_far h p (map-append sense f.items (x ∷ []));
+      held =
+          take_all (i + 1) kept (omega arith)
+          ∙ sym (take_all i kept (omega arith))
+          ∙ f.held
+          ∙ sym (take-append-le room f.items (x ∷ []) (omega arith));
+      size = size;
     }

@@ -1,6 +1,5 @@
 -- The whole file, section by section.
-use Rattle.std.proofs.Common.{◌≡◌, ℕ, List, [], ◌∷◌, length, map, refl, ap, ◌∙◌, arith}
-use Rattle.std.proofs.lemmas.List.{map-id}
+use Rattle.std.proofs.Common.{◌≡◌, ℕ, List, [], ◌∷◌, length, refl, ◌∙◌, arith}
 use Rattle.linefile.specs.declared.faults.FileFault.{FileFault}
 use Rattle.linefile.specs.declared.faults.Flaw.TheVariants.{Trailing}
 use Rattle.linefile.specs.declared.key.KeyRecord.{KeyRecord}
@@ -55,5 +54,5 @@ ends-trailing x p (b ∷ r) h = refl
 pub trailing : (bs : List ℕ) {r1 r2 r3 : List ℕ} {p1 p2 p3 : ℕ} {key : KeyRecord} {words : List ℕ} {frames : List SentFrame} → Past key_section 0 bs key p1 r1 → Past (counted most_pads pad_word) p1 r1 words p2 r2 → Past (counted most_frames sent_frame) p2 r2 frames p3 r3 → (length r3 ≡ 0 → ⊥) → decode bs ≡ Bad Trailing p3
 trailing bs a b c h = at-end a b c ∙ ends-trailing _ _ _ h
 
-pub finished : (bs : List ℕ) {r1 r2 r3 : List ℕ} {p1 p2 p3 : ℕ} {key : KeyRecord} {words : List ℕ} {frames : List SentFrame} → Past key_section 0 bs key p1 r1 → Past (counted most_pads pad_word) p1 r1 (map (λ w. w) words) p2 r2 → Past (counted most_frames sent_frame) p2 r2 frames p3 r3 → length r3 ≡ 0 → decode bs ≡ Good (record { key = key; words = words; frames = frames })
-finished bs {key = key} {words = words} {frames = frames} a b c h = at-end a b c ∙ ends-good _ _ _ h ∙ ap (λ ws. Good (record { key = key; words = ws; frames = frames })) (map-id words)
+pub finished : (bs : List ℕ) {r1 r2 r3 : List ℕ} {p1 p2 p3 : ℕ} {key : KeyRecord} {words : List ℕ} {frames : List SentFrame} → Past key_section 0 bs key p1 r1 → Past (counted most_pads pad_word) p1 r1 words p2 r2 → Past (counted most_frames sent_frame) p2 r2 frames p3 r3 → length r3 ≡ 0 → decode bs ≡ Good (record { key = key; words = words; frames = frames })
+finished bs a b c h = at-end a b c ∙ ends-good _ _ _ h

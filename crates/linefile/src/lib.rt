@@ -1,5 +1,5 @@
 //! The line file: a key, a pad book and frames, as a reader's line was recorded. The whole file is checked, and its first fault
-//! told with its place. Nothing is allocated: the bytes of frames stay where they stand in the file.
+//! told with its place. Nothing is allocated: frames stay where they stand in the file.
 #![tactic(auto)]
 
 mod faults;

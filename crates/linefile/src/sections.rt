@@ -1,15 +1,14 @@
 //! Sections: a count, and so many items behind it.
-ghost use Rattle.std.specs.Prelude.{◌≤◌, map, MatchResult};
+ghost use Rattle.std.specs.Prelude.{◌≤◌, length, MatchResult};
 ghost use Rattle.linefile.specs.File.{Contents, counted, number_field, up_to};
 ghost use Rattle.linefile.specs.Layout.{Part};
-ghost use Rattle.linefile.specs.Parsed.{Fails, Passes};
+ghost use Rattle.linefile.specs.Parsed.{Fails, Passes, ReadSection};
 
 use crate::faults::{FileFault, Flaw};
 use crate::left::Left;
-use arrayvec::ArrayVec;
 
 // What a section has any number of.
-pub(crate) trait Item<'a>: Default + Drop {
+pub(crate) trait Item<'a>: Drop {
     // What an item means.
     ghost Sense: { Type 0 };
 
@@ -34,16 +33,22 @@ fn count(left: &mut Left<'_>, most: usize) -> Result<usize, FileFault>
     Ok(count)
 }
 
-// A section: its count, which is at most MOST, and its items.
-pub(crate) fn section<'a, T: Item<'a>, const MOST: usize>(
+// A section of at most so many items: how many it has, and the bytes from its first item on. The first items, as many as `kept`
+// has room for, are kept there.
+pub(crate) fn section<'a, T: Item<'a>>(
     left: &mut Left<'a>,
-) -> Result<ArrayVec<T, MOST>, FileFault>
-    ensures { MatchResult result (λ items. Passes (counted MOST T.part) left.old (map T.sense items.items) left.new) (Fails (counted MOST T.part) left.old) }
+    most: usize,
+    kept: &mut [T],
+) -> Result<(usize, &'a [u8]), FileFault>
+    ensures { MatchResult result (λ s. ReadSection T.part T.sense most left.old s.0 s.1.now (length kept.old) kept.new left.new) (Fails (counted most T.part) left.old) }
 {
-    let count = count(left, MOST)?;
-    let mut items = ArrayVec::new();
-    for _ in 0..count {
-        items.push(T::read(left)?);
+    let count = count(left, most)?;
+    let bytes = left.bytes;
+    for i in 0..count {
+        let item = T::read(left)?;
+        if i < kept.len() {
+            kept[i] = item;
+        }
     }
-    Ok(items)
+    Ok((count, bytes))
 }

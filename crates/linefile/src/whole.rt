@@ -9,10 +9,9 @@ use crate::frames::FrameList;
 use crate::key::{KeyRecord, key_section};
 use crate::left::Left;
 use crate::pads::PadWords;
-use crate::sections::section;
 
 // What a file has: a key with its door, a pad book, and frames in the order in which they came.
-#[derive(Clone, Drop)]
+#[derive(Clone, Copy)]
 pub struct LineFile<'a> {
     pub key: KeyRecord,
     pub pads: PadWords,
@@ -25,8 +24,9 @@ pub fn parse<'a>(file: &'a [u8]) -> Result<LineFile<'a>, FileFault>
 {
     let mut left = Left { at: 0, bytes: file };
     let key = key_section(&mut left)?;
-    let pads = section(&mut left)?;
-    let frames = section(&mut left)?;
+    let mut pads = PadWords::none();
+    pads.fill(&mut left)?;
+    let frames = FrameList::read(&mut left)?;
     if !left.ends() {
         return Err(Flaw::Trailing.at(left.at));
     }

@@ -72,7 +72,7 @@ fn tell_under<F: Family + Drop>(key: F, file: &LineFile<'_>) -> Result<Page, Doo
 {
     let mut door = DoorEnd::new(key, file.key.door, file.key.allowance)?;
     let pads = PadBook::new(file.pads.as_slice());
-    Ok(tell_frames(&mut door, &file.frames, &pads))
+    Ok(tell_frames(&mut door, file.frames, &pads))
 }
 
 // The same of a key that was admitted, under the parity layer where the file says so.

@@ -30,17 +30,19 @@ fn open<F: Family + Drop, P: PadSource>(
 // Opens frames in order: a line for each, and how many there are of each sort.
 pub(crate) fn tell_frames<F: Family + Drop, P: PadSource>(
     door: &mut DoorEnd<F>,
-    frames: &FrameList<'_>,
+    frames: FrameList<'_>,
     pads: &P,
 ) -> Page
-    ensures { written result ≡ frame_lines (frames_of frames.now) (answers (P.words pads.now) (door_state F.meaning door.old) (frames_of frames.now)) ++ summed_up (totals_of (answers (P.words pads.now) (door_state F.meaning door.old) (frames_of frames.now))) }
+    ensures { written result ≡ frame_lines (frames_of frames.entry) (answers (P.words pads.now) (door_state F.meaning door.old) (frames_of frames.entry)) ++ summed_up (totals_of (answers (P.words pads.now) (door_state F.meaning door.old) (frames_of frames.entry))) }
 {
     let mut page = Page::blank();
     let mut totals = Totals::none();
-    for frame in frames.as_slice() {
-        let answer = open(door, *frame, pads);
+    let mut left = frames;
+    while let Some((frame, rest)) = left.split_first() {
+        let answer = open(door, frame, pads);
         page.frame_line(frame.slot, &answer).unwrap();
         totals.count(&answer);
+        left = rest;
     }
     page.totals_line(&totals).unwrap();
     page

@@ -1,8 +1,7 @@
-use Rattle.std.proofs.Common.{◌≡◌, length, map}
-use Rattle.linefile.proofs.Stages.{SoFar}
+use Rattle.std.proofs.Common.{length}
+use Rattle.linefile.proofs.Stages.{Filled}
 use Rattle.linefile.proofs.sections.section.Given as goal
 
-abbrev pub invariant-loop : goal.invariant-loop
-invariant-loop g l =
-    SoFar g.T.Item.part l.count l.initial.left.at l.initial.left.bytes.now l.counter (map g.T.Item.sense l.items.items) l.left.at l.left.bytes.now
-    × (l.counter ≡ length l.items.items)
+abbrev pub invariant-loop-i : goal.invariant-loop-i
+invariant-loop-i g l =
+    Filled g.T.Item.part g.T.Item.sense l.count l.initial.left.at l.initial.left.bytes.now (length l.initial.kept) l.i l.left.at l.left.bytes.now l.kept
