@@ -19,11 +19,11 @@ use Rattle.ends.specs.declared.end.End.{End}
 
 -- ---- where the governing key reaches every text, the question of its reach is answered yes wherever it is asked
 
-seal_follows : (h : EndState) (slot : ℕ) (payload buffer : List ℕ) (pads : Pads) → Reaches h
+pub seal_follows : (h : EndState) (slot : ℕ) (payload buffer : List ℕ) (pads : Pads) → Reaches h
     → any_seal_reply h slot payload buffer pads ≡ seal_reply h slot payload buffer pads
 seal_follows h slot payload buffer pads full = grind (arith, nat_tests, full slot)
 
-open_follows : (h : EndState) (slot : ℕ) (frame buffer : List ℕ) (pads : Pads) → Reaches h
+pub open_follows : (h : EndState) (slot : ℕ) (frame buffer : List ℕ) (pads : Pads) → Reaches h
     → any_open_reply h slot frame buffer pads ≡ open_reply h slot frame buffer pads
 unfolding frame_questions
 open_follows h slot frame buffer pads full = grind (arith, nat_tests, full slot)

@@ -7,6 +7,7 @@ use family::RawKey;
 use pads::{CipherSource, PadBook, PadSource};
 use parity::Parity;
 use runs::{Call, Entry, Reply, run};
+use std::alloc::AllocError;
 use std::{fmt, io};
 
 // A CRC key under the parity layer: width 64, distance 4.
@@ -89,29 +90,28 @@ impl Day<'_> {
         Ok(())
     }
 
-    // The same for one call. What comes back is its entry, answered.
-    fn ask_one<P: PadSource + Drop>(
-        &mut self,
-        name: &str,
+    // One call, as a list of calls.
+    fn alone<P: PadSource + Drop>(
+        &self,
         call: Call<Key, Key, P>,
-    ) -> anyhow::Result<Option<Entry<Key, Key, P>>> {
+    ) -> Result<Vec<Entry<Key, Key, P>>, AllocError> {
         let mut calls = Vec::new(self.rt.alloc());
         calls.push(Entry::Asked(call))?;
-        self.ask(&[name], calls.as_mut_slice())?;
-        Ok(calls.pop())
+        Ok(calls)
     }
 
     // The frame of a badge's number, or no bytes where the slot is refused.
     fn seal<P: PadSource + Drop>(&mut self, slot: u32, pads: P) -> anyhow::Result<Vec<u8>> {
         let heap = self.rt.alloc();
-        println!(self.rt; "  slot {slot}")?;
-        let call = Call::Seal {
+        let mut calls = self.alone(Call::Seal {
             slot,
             payload: b"badge 0041-7730".to_vec(heap)?,
             out: vec![in heap; 0; 32]?,
             pads,
-        };
-        match self.ask_one("reader seals", call)? {
+        })?;
+        println!(self.rt; "  slot {slot}")?;
+        self.ask(&["reader seals"], calls.as_mut_slice())?;
+        match calls.pop() {
             Some(Entry::Told(Reply::Sealed(Ok(size), mut out))) => {
                 out.truncate(size);
                 Ok(out)
@@ -138,13 +138,13 @@ impl Day<'_> {
             1 => "door opens it with one bit changed",
             _ => "door opens it with two bits changed",
         };
-        let call = Call::Open {
+        let mut calls = self.alone(Call::Open {
             slot,
             frame,
             out: vec![in heap; 0; 32]?,
             pads,
-        };
-        self.ask_one(name, call)?;
+        })?;
+        self.ask(&[name], calls.as_mut_slice())?;
         Ok(())
     }
 
